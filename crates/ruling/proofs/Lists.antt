@@ -16,10 +16,10 @@ use Rattle.std.specs.declared.option.Option.the-variants.{Some, None}
 use Rattle.std.specs.declared.result.Result.{Result}
 use Rattle.std.specs.declared.result.Result.the-variants.{Ok, Err}
 use Rattle.ruling.specs.declared.refusal.Refusal.{Refusal}
-use Rattle.ruling.specs.declared.refusal.Refusal.the-variants.{KindCount, RankAbove, KindsDiffer}
+use Rattle.ruling.specs.declared.refusal.Refusal.the-variants.{KindCount, RankAbove}
 use Rattle.ruling.specs.Questions.{rankIn}
 use Rattle.ruling.specs.Checks.{lowest, first, Answers}
-use Rattle.ruling.specs.KindLists.{Ranks, KindList, hasLeaf, countFault, rankFault, listFault, sameRank, kindsFault}
+use Rattle.ruling.specs.KindLists.{Ranks, KindList, hasLeaf, countFault, rankFault, listFault, sameRank, differing}
 use Rattle.ruling.proofs.Lowest.{lowest-none, lowest-at, none-lowest}
 
 pub same-list : (xs ys : List ℕ) → length xs ≡ length ys → ((k : ℕ) → k < length xs → getD xs k 0 ≡ getD ys k 0) → xs ≡ ys
@@ -107,9 +107,9 @@ lists-same ks ls a b h =
     turned (Some x) None e = e
     turned (Some x) (Some y) e = eq-eqb y x (sym (eqb-true x y e))
 
-pub same-fault : (ks : List ℕ) → kindsFault ks ks ≡ None
-same-fault ks = ap (mapped (λ k. KindsDiffer k)) (lowest-none (λ k. not (sameRank (rankIn ks k) (rankIn ks k))) 0 (max (length ks) (length ks))
-    (λ i _ _. ap not (self (rankIn ks i))))
+pub same-kinds : (ks : List ℕ) → differing ks ks ≡ None
+same-kinds ks =
+    lowest-none (λ k. not (sameRank (rankIn ks k) (rankIn ks k))) 0 (max (length ks) (length ks)) (λ i _ _. ap not (self (rankIn ks i)))
   where
     self : (x : Option ℕ) → sameRank x x ≡ true
     self None = refl
@@ -117,9 +117,9 @@ same-fault ks = ap (mapped (λ k. KindsDiffer k)) (lowest-none (λ k. not (sameR
 
 -- k is the lowest kind at which the lists differ
 pub differ-at : (ks ls : List ℕ) (i : ℕ) → sameRank (rankIn ks i) (rankIn ls i) ≡ false
-    → ((k : ℕ) → k < i → sameRank (rankIn ks k) (rankIn ls k) ≡ true) → kindsFault ks ls ≡ Some (KindsDiffer i)
-differ-at ks ls i e h = ap (mapped (λ k. KindsDiffer k)) (lowest-at (λ k. not (sameRank (rankIn ks k) (rankIn ls k))) 0 (max (length ks) (length ls)) i
-    (omega arith) (inside (decLt i (length ks)) (decLt i (length ls))) (ap not e) (λ j _ u. ap not (h j u)))
+    → ((k : ℕ) → k < i → sameRank (rankIn ks k) (rankIn ls k) ≡ true) → differing ks ls ≡ Some i
+differ-at ks ls i e h = lowest-at (λ k. not (sameRank (rankIn ks k) (rankIn ls k))) 0 (max (length ks) (length ls)) i
+    (omega arith) (inside (decLt i (length ks)) (decLt i (length ls))) (ap not e) (λ j _ u. ap not (h j u))
   where
     beyond : (xs : List ℕ) → length xs ≤ i → rankIn xs i ≡ None
     beyond xs l = ap (λ b. cond b (Some (getD xs i 0)) None) (le-ltb i (length xs) l)

@@ -1,8 +1,9 @@
 ghost use mathlib.Core.Path.{_≡_};
 ghost use Prim.Native.Nat.{ℕ, _<_, _≤_};
-ghost use lib.ListN.{length, getD};
+ghost use lib.ListN.{length, getD, take};
+ghost use Rattle.std.specs.declared.option.Option.the-variants.{None};
 ghost use Rattle.ruling.specs.Checks.{Answers};
-ghost use Rattle.ruling.specs.KindLists.{sameRank, kindsFault};
+ghost use Rattle.ruling.specs.KindLists.{sameRank, differing, kindsFault};
 ghost use Rattle.ruling.specs.Listed.{listOf};
 use super::kinds::Kinds;
 use super::refusal::Refusal;
@@ -19,16 +20,27 @@ fn same_rank(x: Option<u8>, y: Option<u8>) -> bool
     }
 }
 
+// The lowest kind whose rank differs, or that is in one list only.
+fn first_difference<R: Ruling>(ruling: &R, kinds: &Kinds) -> Option<u8>
+    ensures lowest { λ r. ⌜ r ≡ differing (R·Ruling .meaning (now (ruling .entry)) .plain .kinds) (listOf (now (kinds .entry))) ⌝ }
+    ensures none { λ r. ⌜ (r ≡ None → R·Ruling .meaning (now (ruling .entry)) .plain .kinds ≡ listOf (now (kinds .entry))) ⌝ }
+{
+    for kind in 0..16u8 {
+        if !same_rank(ruling.rank(kind), kinds.rank(kind)) {
+            return Some(kind);
+        }
+    }
+    None
+}
+
 // Whether a kind list is that of a ruling: 7, the lowest kind that differs or is in one list only.
 pub fn check_same_kinds<R: Ruling>(ruling: &R, kinds: &Kinds) -> Result<(), Refusal>
     ensures { λ r. ⌜ Answers (kindsFault (R·Ruling .meaning (now (ruling .entry)) .plain .kinds) (listOf (now (kinds .entry)))) (λ _. R·Ruling .meaning (now (ruling .entry)) .plain .kinds ≡ listOf (now (kinds .entry))) r ⌝ }
 {
-    for kind in 0..16u8 {
-        if !same_rank(ruling.rank(kind), kinds.rank(kind)) {
-            return Err(Refusal::KindsDiffer(kind as usize));
-        }
+    match first_difference(ruling, kinds) {
+        Some(kind) => Err(Refusal::KindsDiffer(kind as usize)),
+        None => Ok(()),
     }
-    Ok(())
 }
 
 fn kind_count<R: Ruling>(ruling: &R) -> u8
@@ -51,9 +63,11 @@ fn rank_or_zero<R: Ruling>(ruling: &R, kind: u8) -> u8
     }
 }
 
+// The ranks of a ruling's kinds, with zeros behind.
 fn ranks_of<R: Ruling>(ruling: &R, count: u8) -> [u8; 16]
     requires { ⌜ count ≤ 16 ⌝ ∗ ⌜ count ≡ length (R·Ruling .meaning (now ruling) .plain .kinds) ⌝ }
-    ensures { λ r. ⌜ ((k : ℕ) → k < count → getD r k 0 ≡ getD (R·Ruling .meaning (now (ruling .entry)) .plain .kinds) k 0) ⌝ }
+    ensures front { λ r. ⌜ take count r ≡ R·Ruling .meaning (now (ruling .entry)) .plain .kinds ⌝ }
+    ensures same { λ r. ⌜ ((k : ℕ) → k < count → getD r k 0 ≡ getD (R·Ruling .meaning (now (ruling .entry)) .plain .kinds) k 0) ⌝ }
 {
     let mut ranks = [0; 16];
     for kind in 0..count {

@@ -1,6 +1,6 @@
 ghost use mathlib.Core.Path.{_≡_};
 ghost use Prim.Native.Nat.{ℕ, _<_, _≤_};
-ghost use lib.ListN.{length, getD};
+ghost use lib.ListN.{length, getD, take};
 ghost use Rattle.std.specs.declared.option.Option.the-variants.{None};
 ghost use Rattle.ruling.specs.Questions.{rankIn};
 ghost use Rattle.ruling.specs.Checks.{Answers};
@@ -62,9 +62,11 @@ pub fn check_opening(ranks: &[u8]) -> Result<(), Refusal>
     check_leaf_kind(ranks)
 }
 
+// The ranks at the front of an array of 16, with zeros behind.
 fn filled(ranks: &[u8]) -> [u8; 16]
     requires { ⌜ length (now ranks) ≤ 16 ⌝ }
-    ensures { λ r. ⌜ ((k : ℕ) → k < length (now (ranks .entry)) → getD r k 0 ≡ getD (now (ranks .entry)) k 0) ⌝ }
+    ensures front { λ r. ⌜ take (length (now (ranks .entry))) r ≡ now (ranks .entry) ⌝ }
+    ensures same { λ r. ⌜ ((k : ℕ) → k < length (now (ranks .entry)) → getD r k 0 ≡ getD (now (ranks .entry)) k 0) ⌝ }
 {
     let mut all = [0; 16];
     for kind in 0..ranks.len() {
@@ -81,10 +83,8 @@ impl Kinds {
         ensures { λ r. ⌜ listOf r ≡ now (ranks .entry) ⌝ }
     {
         let all = filled(ranks);
-        Kinds {
-            count: ranks.len() as u8,
-            ranks: all,
-        }
+        let count = ranks.len() as u8;
+        Kinds { count, ranks: all }
     }
 
     // The number of kinds.
@@ -98,10 +98,9 @@ impl Kinds {
     pub fn rank(&self, kind: u8) -> Option<u8>
         ensures { λ r. ⌜ r ≡ rankIn (listOf (now (self .entry))) kind ⌝ }
     {
-        if kind < self.count {
-            Some(self.ranks[kind as usize])
-        } else {
-            None
+        if kind >= self.count {
+            return None;
         }
+        Some(self.ranks[kind as usize])
     }
 }

@@ -9,9 +9,9 @@ use borrow.Author.Tests.{lt-ltb}
 use Rattle.ruling.specs.Listed.{listOf}
 use Rattle.ruling.proofs.kinds.Kinds.rank.Needs as need
 
-pub returns-then-kind-self : need.returns-then-kind-self
-returns-then-kind-self c =
+pub returns : need.returns
+returns c =
+    let h : c .args .kind < c .args .self .now .count = omega arith in
     let l : c .args .kind < length (listOf (c .args .self .now)) = simp length-take (omega arith) in
     let e : ltb (c .args .kind) (length (listOf (c .args .self .now))) ≡ true = lt-ltb _ _ l in
-    let h = c .if-kind-self .taken in
     rw (e, getD-take)

@@ -4,7 +4,7 @@ use Prim.Native.Nat.{ℕ, _<_}
 use Rattle.ruling.specs.Questions.{rankIn}
 use Rattle.ruling.specs.KindLists.{sameRank}
 use Rattle.ruling.specs.Listed.{listOf}
-use Rattle.ruling.proofs.compare.check_same_kinds.Given as given
+use Rattle.ruling.proofs.compare.first_difference.Given as given
 
 abbrev pub Inv-loop-kind : given.InvT-loop-kind
 Inv-loop-kind g l =

@@ -1,0 +1,14 @@
+// Scripts of calls: reading a line, making the call, writing the answer.
+mod answer;
+mod arguments;
+mod call;
+mod reading;
+mod texts;
+mod words;
+
+pub use answer::Answer;
+pub use call::Call;
+pub use call::Line;
+pub use reading::read_line;
+pub use texts::text;
+pub use words::Words;
