@@ -49,7 +49,7 @@ int main(void)
     const uint8_t lone_sign[] = {0x02};
     const uint8_t two_parts[] = {0x00, 0x01};
     const uint8_t no_kind[] = {0x04};
-    static uint8_t longest[4096], too_long[4097];
+    static uint8_t longest[4096], too_long[4097], long_table[65536];
 
     show_record("path", path, sizeof path);
     show_record("road", road, sizeof road);
@@ -72,5 +72,7 @@ int main(void)
     show_damaged("table with one byte more", 34, 0x00, 35);
     show_damaged("table of edition 2", 0, 0x02, 34);
     show_damaged("table with a rank of 3", 7, 0x03, 34);
+    show("table of 65,536 bytes", long_table, sizeof long_table, path, sizeof path);
+    show("table of no bytes", no_road, 0, path, sizeof path);
     return 0;
 }

@@ -1,5 +1,6 @@
 // The ground of the house: kinds, refusals and the interface of a ruling. The definitions are in specs/.
 mod compare;
+mod fitting;
 mod kind_list;
 mod kinds;
 mod layer;
@@ -8,11 +9,18 @@ mod ruling;
 
 pub use compare::check_same_kinds;
 pub use compare::kinds_of;
+pub use fitting::fits_rank;
 pub use kind_list::check_leaf_kind;
 pub use kind_list::check_opening;
 pub use kind_list::check_ranks;
 pub use kinds::Kinds;
 pub use layer::Layer;
+pub use layer::LayerDebug;
+pub use layer::LayerPartialEq;
 pub use refusal::Notice;
+pub use refusal::NoticeDebug;
+pub use refusal::NoticePartialEq;
 pub use refusal::Refusal;
+pub use refusal::RefusalDebug;
+pub use refusal::RefusalPartialEq;
 pub use ruling::Ruling;

@@ -4,3 +4,4 @@ pub mod Left
 pub mod Arguments
 pub mod Calls
 pub mod Texts
+pub mod Sessions

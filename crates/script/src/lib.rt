@@ -2,7 +2,11 @@
 mod answer;
 mod arguments;
 mod call;
+mod kept;
+mod questions;
 mod reading;
+mod serving;
+mod session;
 mod texts;
 mod words;
 
@@ -10,5 +14,5 @@ pub use answer::Answer;
 pub use call::Call;
 pub use call::Line;
 pub use reading::read_line;
+pub use session::Session;
 pub use texts::text;
-pub use words::Words;

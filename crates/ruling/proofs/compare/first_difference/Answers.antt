@@ -9,10 +9,11 @@ use Rattle.ruling.proofs.Lists.{lists-same, same-kinds, differ-at}
 use Rattle.ruling.proofs.compare.first_difference.Needs as need
 
 pub returns-then-not-same-rank : need.returns-then-not-same-rank
-returns-then-not-same-rank g c = record
-  { lowest = sym (differ-at (g .R·Ruling .meaning (c .args .ruling .now) .plain .kinds) (listOf (c .args .kinds .now)) (c .loop-kind .kind)
-      (let e = c .if-not-same-rank .taken in cc) (c .loop-kind .inv))
-  ; none = λ e. let z : _≡_ {A = ℕ} 0 1 = cc in absurd (omega arith) }
+returns-then-not-same-rank g c = record {
+  lowest = sym (differ-at (g .R·Ruling .meaning (c .args .ruling .now) .plain .kinds) (listOf (c .args .kinds .now)) (c .loop-kind .kind)
+      (let e = c .if-not-same-rank .taken in cc) (c .loop-kind .inv));
+  none = λ e. let z : _≡_ {A = ℕ} 0 1 = cc in absurd (omega arith);
+}
 
 pub returns : need.returns
 returns g c =

@@ -1,0 +1,7 @@
+-- In reading order.
+pub mod Stacks
+pub mod Reckonings
+pub mod Walking
+pub mod States
+pub mod Tallies
+pub mod Judging

@@ -1,0 +1,21 @@
+// Walking records: a stack that the caller lends, reckonings, the one walk, judge and measure.
+mod judging;
+mod reckoning;
+mod stack;
+mod states;
+mod tally;
+mod walking;
+
+pub use judging::judge;
+pub use judging::judge_bytes;
+pub use judging::measure;
+pub use reckoning::Reckoning;
+pub use stack::Stack;
+pub use states::States;
+pub use states::StatesReckoning;
+pub use tally::Size;
+pub use tally::SizeDebug;
+pub use tally::SizePartialEq;
+pub use tally::Tally;
+pub use tally::TallyReckoning;
+pub use walking::walk;

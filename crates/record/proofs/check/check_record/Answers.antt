@@ -1,0 +1,44 @@
+use mathlib.Core.Path.{_≡_, sym, _∙_}
+use Prim.Native.Nat.{_<_, _≤_, _+_}
+use native.Mathlib.Omega.{arith}
+use lib.ListN.{length, getD}
+use Rattle.std.proofs.shelf.Results.{err-from-errBy}
+use Rattle.ruling.specs.Listed.{listOf}
+use Rattle.record.proofs.Exact.{within}
+use Rattle.record.proofs.Counts.{small-ranks, goes-on, stops, one, several, no-bytes, too-long}
+use Rattle.record.proofs.Checked.{says-err, says-ok}
+use Rattle.record.proofs.check.check_record.Needs as need
+
+pub returns-then-bytes-eq0 : need.returns-then-bytes-eq0
+returns-then-bytes-eq0 c = says-err _ _ _ _ (no-bytes (listOf (c .args .kinds .now)) (c .args .limit) (c .args .bytes .now) (omega arith))
+
+pub returns-then-bytes-limit : need.returns-then-bytes-limit
+returns-then-bytes-limit c = says-err _ _ _ _ (too-long (listOf (c .args .kinds .now)) (c .args .limit) (c .args .bytes .now) (omega arith) (omega arith))
+
+pub returns-in-Break-read : need.returns-in-Break-read
+returns-in-Break-read c =
+    let ks = listOf (c .args .kinds .now) in
+    let bytes = c .args .bytes .now in
+    let p = err-from-errBy (c .from-residual .result) (c .from-residual .ensures .1) in
+    let e = c .in-Break-read .ensures tt .answer in
+    rw (p .1, p .2) (says-err ks (c .args .limit) bytes _
+    (within ks (c .args .limit) bytes (omega arith) (omega arith) ∙ stops ks bytes _ _ (c .loop-at .inv .1) (omega arith) _ e))
+
+pub loop-at-again : need.loop-at-again
+loop-at-again c =
+    let ks = listOf (c .args .kinds .now) in
+    let e = c .in-Continue-read .ensures tt .answer in
+    (omega arith, goes-on ks (c .args .bytes .now) _ _ (c .loop-at .inv .1) (small-ranks (c .args .kinds .now)) (omega arith) (c .read .last .self .standing) (e .0) (e .1))
+
+pub returns-then-parts-eq1 : need.returns-then-parts-eq1
+returns-then-parts-eq1 c =
+    let ks = listOf (c .args .kinds .now) in
+    let bytes = c .args .bytes .now in
+    let w = one ks bytes _ _ (c .loop-at .inv .1) (omega arith) (omega arith) in
+    says-ok ks (c .args .limit) bytes (w .0) (within ks (c .args .limit) bytes (omega arith) (omega arith) ∙ w .1)
+
+pub returns-else-parts-eq1 : need.returns-else-parts-eq1
+returns-else-parts-eq1 c =
+    let ks = listOf (c .args .kinds .now) in
+    let bytes = c .args .bytes .now in
+    says-err ks (c .args .limit) bytes _ (within ks (c .args .limit) bytes (omega arith) (omega arith) ∙ several ks bytes _ _ (c .loop-at .inv .1) (omega arith) (λ e. omega arith))

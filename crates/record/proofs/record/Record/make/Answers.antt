@@ -1,0 +1,14 @@
+use mathlib.Core.Path.{refl}
+use native.Mathlib.Omega.{arith}
+use Rattle.ruling.specs.Listed.{listOf}
+use Rattle.record.proofs.HeldTree.{one-ok, is-written}
+use Rattle.record.proofs.record.Record.make.Needs as need
+
+pub ghost-result : need.ghost-result
+ghost-result c = (one-ok (listOf (c .args .kinds)) (c .args .bytes .now) (c .pre), (omega arith, tt))
+
+pub returns : need.returns
+returns c =
+    let ks = listOf (c .args .kinds) in
+    let bytes = c .args .bytes .now in
+    record { bytes = refl; kinds = refl; place = refl; tree = is-written ks bytes (one-ok ks bytes (c .pre)) }
