@@ -1,20 +1,19 @@
 -- The reckonings of states and sizes.
-use mathlib.Core.Path.{_≡_, refl, sym, _∙_, ap, ap₂, subst}
-use mathlib.Core.Bool.{Bool, true, false, cond, _&&_}
+use mathlib.Core.Path.{_≡_, refl, _∙_, ap, ap₂}
+use mathlib.Core.Bool.{true, false, cond, _&&_}
 use mathlib.Core.List.{List}
 use Prim.Native.Nat.{ℕ, _+_, _<_, _≤_, max}
 use native.Mathlib.Omega.{arith}
-use lib.Dec.{ltb, eqb}
+use lib.Dec.{ltb}
 use lib.ListN.{length, getD}
 use Rattle.std.proofs.shelf.Tests.{lt-ltb, eq-eqb, and-from}
 use Rattle.std.specs.Options.{valueOr}
 use Rattle.std.specs.declared.option.Option.the-variants.{Some, None}
-use Rattle.ruling.specs.Trees.{Tree, leaf, stem, fork, Kind, Over, nodeCount, heightOf}
-use Rattle.ruling.specs.Meanings.{Meaning, Fits, run, accepts}
+use Rattle.ruling.specs.Trees.{Tree, leaf, stem, fork, Over, nodeCount, heightOf}
+use Rattle.ruling.specs.Meanings.{Fits, run, accepts}
 use Rattle.ruling.specs.Meanings.Fits.{none, one, two}
-use Rattle.ruling.specs.Questions.{fitting, targeted, marked}
+use Rattle.ruling.specs.Questions.{fitting, marked}
 use Rattle.ruling.specs.Rulings.{Ruled}
-use Rattle.judging.specs.declared.tally.Size.{Size}
 use Rattle.judging.specs.Reckonings.{reckoned}
 use Rattle.judging.specs.States.{stateAt}
 use Rattle.judging.specs.Tallies.{capped, leafSize, stemSize, forkSize, sizeOf}

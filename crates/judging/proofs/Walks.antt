@@ -1,8 +1,8 @@
 -- A walk keeps the values of the parts that stand.
-use mathlib.Core.Path.{_≡_, refl, sym, _∙_, ap, ap₂, subst}
+use mathlib.Core.Path.{_≡_, refl, sym, _∙_, ap, ap₂}
 use mathlib.Core.Bool.{Bool, true, false, cond}
 use mathlib.Core.List.{List, [], _∷_, map}
-use Prim.Native.Nat.{ℕ, zero, suc, _+_, _<_, _≤_, min}
+use Prim.Native.Nat.{ℕ, zero, suc, _+_, _<_, _≤_}
 use native.Mathlib.Numerals.{add-one}
 use native.Mathlib.Omega.{arith}
 use lib.Dec.{ltb}
@@ -10,7 +10,6 @@ use lib.ListN.{length, getD, drop, length-map}
 use borrow.Author.Tests.{lt-ltb, le-ltb}
 use Rattle.std.proofs.shelf.Lists.{drop-more, drop-all}
 use Rattle.std.proofs.shelf.Tests.{cond-true, cond-false}
-use Rattle.std.specs.declared.option.Option.{Option}
 use Rattle.std.specs.declared.option.Option.the-variants.{Some, None}
 use Rattle.std.specs.declared.result.Result.{Result}
 use Rattle.std.specs.declared.result.Result.the-variants.{Ok, Err}
@@ -24,7 +23,7 @@ use Rattle.record.specs.Reading.{closed, nodeRead, ended, after, readFrom}
 use Rattle.judging.specs.Stacks.{live, fullFault}
 use Rattle.judging.specs.Reckonings.{reckoned}
 use Rattle.judging.specs.Walking.{Steps, walked}
-use Rattle.record.proofs.Exact.{node-is, read-on}
+use Rattle.record.proofs.Exact.{node-is}
 use Rattle.judging.proofs.Live.{live-length}
 
 -- a kind of the list, by the answer about its rank

@@ -1,15 +1,14 @@
 -- The children of a record in its bytes.
 use mathlib.Core.Path.{_≡_, refl, sym, _∙_, ap, ap₂, subst}
-use mathlib.Core.List.{List, [], _∷_, _++_, append-assoc, append-nil}
+use mathlib.Core.List.{List, [], _∷_, _++_, append-assoc}
 use Prim.Native.Nat.{ℕ, zero, suc, _+_, _-_, _<_, _≤_}
 use native.Mathlib.Decide.{decLt}
 use native.Mathlib.Omega.{arith}
 use lib.Dec.{ltb}
 use lib.ListN.{length, getD, take, drop, length-append}
-use Rattle.std.proofs.shelf.Lists.{take-at, drop-at, getD-push, length-push, getD-at}
+use Rattle.std.proofs.shelf.Lists.{take-at, drop-at, getD-push, length-push}
 use borrow.Author.Tests.{lt-ltb, le-ltb}
 use Rattle.std.specs.Options.{isSome}
-use Rattle.std.specs.declared.option.Option.{Option}
 use Rattle.std.specs.declared.option.Option.the-variants.{Some, None}
 use Rattle.ruling.specs.Trees.{Tree, leaf, stem, fork, Over, postorder, nodeCount}
 use Rattle.record.specs.declared.children.Span.{Span}

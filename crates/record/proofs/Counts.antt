@@ -1,18 +1,16 @@
 -- The number of the parts that stand decides the fault of the next node.
-use mathlib.Core.Path.{_≡_, refl, sym, _∙_, ap, ap₂, subst}
+use mathlib.Core.Path.{_≡_, refl, sym, _∙_, ap, ap₂}
 use mathlib.Core.Bool.{Bool, true, false, cond}
 use mathlib.Core.List.{List, [], _∷_}
 use Prim.Native.Nat.{ℕ, zero, suc, _+_, _<_, _≤_}
 use native.Mathlib.Decide.{decLt}
 use native.Mathlib.Omega.{arith}
 use lib.Dec.{ltb, leb}
-use lib.ListN.{length, getD, take, drop, length-take}
+use lib.ListN.{length, getD, drop, length-take}
 use lib.Seq.{getD-take}
-use borrow.Author.Tests.{ltb-true, ltb-false, leb-true, leb-false, lt-ltb, le-leb, le-ltb, lt-leb}
+use borrow.Author.Tests.{ltb-true, leb-true, leb-false, lt-ltb, le-ltb, lt-leb}
 use Rattle.std.proofs.shelf.Lists.{drop-more, drop-all, getD-past}
-use Rattle.std.specs.declared.option.Option.{Option}
 use Rattle.std.specs.declared.option.Option.the-variants.{Some, None}
-use Rattle.std.specs.declared.result.Result.{Result}
 use Rattle.std.specs.declared.result.Result.the-variants.{Ok, Err}
 use Rattle.ruling.specs.declared.kinds.Kinds.{Kinds}
 use Rattle.ruling.specs.declared.refusal.Refusal.{Refusal}
@@ -20,7 +18,7 @@ use Rattle.ruling.specs.declared.refusal.Refusal.the-variants.{RecordLength, No
 use Rattle.ruling.specs.Trees.{Tree, leaf, stem, fork}
 use Rattle.ruling.specs.KindLists.{Ranks}
 use Rattle.ruling.specs.Listed.{listOf}
-use Rattle.record.specs.Reading.{closed, nodeRead, ended, after, readFrom, readRecord, faultIn}
+use Rattle.record.specs.Reading.{closed, nodeRead, ended, after, readFrom, readRecord}
 use Rattle.record.specs.Counting.{nodeFault}
 use Rattle.record.proofs.Exact.{read-on}
 

@@ -8,13 +8,13 @@ use native.Mathlib.Numerals.{add-one}
 use native.Mathlib.Omega.{arith}
 use lib.Dec.{ltb, leb}
 use lib.ListN.{length, getD, length-append}
-use borrow.Author.Tests.{ltb-true, ltb-false, leb-true, lt-ltb, le-leb, le-ltb}
+use borrow.Author.Tests.{ltb-true, leb-true, lt-ltb, le-leb}
 use Rattle.std.specs.declared.result.Result.{Result}
 use Rattle.std.specs.declared.result.Result.the-variants.{Ok, Err}
 use Rattle.ruling.specs.declared.refusal.Refusal.{Refusal}
-use Rattle.ruling.specs.declared.refusal.Refusal.the-variants.{RecordLength, NoKind, TooFewParts, SeveralParts}
+use Rattle.ruling.specs.declared.refusal.Refusal.the-variants.{RecordLength, NoKind}
 use Rattle.ruling.specs.Trees.{Tree, leaf, stem, fork, Kind, Over, postorder, nodeCount}
-use Rattle.record.specs.Reading.{closed, nodeRead, ended, after, readFrom, readRecord, OneRecord}
+use Rattle.record.specs.Reading.{closed, nodeRead, after, readFrom, readRecord, OneRecord}
 use Rattle.record.specs.Laws.{Written, ReadsExactly}
 
 -- one byte for each node

@@ -1,5 +1,5 @@
 -- The tree that a checked record holds.
-use mathlib.Core.Path.{_≡_, refl, sym, _∙_, ap, subst}
+use mathlib.Core.Path.{_≡_, refl, sym, _∙_, ap}
 use mathlib.Core.Bool.{true}
 use mathlib.Core.List.{List}
 use Prim.Native.Nat.{ℕ, _<_, _≤_}
@@ -9,7 +9,7 @@ use Rattle.std.specs.Results.{isOk, valueOr}
 use Rattle.std.specs.declared.result.Result.{Result}
 use Rattle.std.specs.declared.result.Result.the-variants.{Ok, Err}
 use Rattle.ruling.specs.declared.refusal.Refusal.{Refusal}
-use Rattle.ruling.specs.Trees.{Tree, leaf, nodeCount, postorder}
+use Rattle.ruling.specs.Trees.{Tree, leaf, nodeCount}
 use Rattle.record.specs.Reading.{readRecord, treeIn, OneRecord}
 use Rattle.record.specs.Laws.{Written}
 use Rattle.record.proofs.Exact.{reads-all, written-all, count-length, some-nodes}
