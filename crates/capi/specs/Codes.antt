@@ -3,12 +3,11 @@ use mathlib.Core.Bool.{Bool, true, false}
 use mathlib.Core.List.{List}
 use Prim.Native.Nat.{ℕ, zero, suc}
 use lib.IntN.{ℤ, pos, negsuc}
-use Rattle.std.specs.declared.option.Option.{Option}
-use Rattle.std.specs.declared.option.Option.the-variants.{Some, None}
 use Rattle.std.specs.declared.result.Result.{Result}
 use Rattle.std.specs.declared.result.Result.the-variants.{Ok, Err}
 use Rattle.ruling.specs.declared.refusal.Refusal.{Refusal}
 use Rattle.ruling.specs.Refusals.{told}
+use Rattle.ruling.specs.Checks.{unless}
 use Rattle.ruling.specs.Meanings.{Meaning, accepts}
 use Rattle.record.specs.Reading.{after, readRecord}
 use Rattle.table.specs.TableFiles.{tableFault, fileMeaning}
@@ -29,9 +28,5 @@ abbrev pub accepted : Meaning → List ℕ → Result Bool Refusal
 accepted m bytes = after (readRecord (m .kinds) 4096 bytes) (λ t. Ok (accepts m t))
 
 -- The same for the ruling of a table file, which is checked first.
-abbrev pub unlessFault : Option Refusal → Result Bool Refusal → Result Bool Refusal
-unlessFault (Some r) verdict = Err r
-unlessFault None verdict = verdict
-
 abbrev pub fileVerdict : List ℕ → List ℕ → Result Bool Refusal
-fileVerdict f bytes = unlessFault (tableFault f) (accepted (fileMeaning f) bytes)
+fileVerdict f bytes = unless (tableFault f) (accepted (fileMeaning f) bytes)

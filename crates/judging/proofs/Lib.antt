@@ -1,3 +1,2 @@
-pub mod Live
 pub mod Walks
 pub mod Runs

@@ -20,11 +20,11 @@ use Rattle.ruling.specs.Questions.{rankIn}
 use Rattle.ruling.specs.Checks.{Answers, Kept}
 use Rattle.ruling.proofs.Lists.{a-rank}
 use Rattle.record.specs.Reading.{closed, nodeRead, ended, after, readFrom}
-use Rattle.judging.specs.Stacks.{live, fullFault}
+use Rattle.stack.specs.Stacks.{live, fullFault}
 use Rattle.judging.specs.Reckonings.{reckoned}
 use Rattle.judging.specs.Walking.{Steps, walked}
 use Rattle.record.proofs.Exact.{node-is}
-use Rattle.judging.proofs.Live.{live-length}
+use Rattle.stack.proofs.Live.{live-length}
 
 -- a kind of the list, by the answer about its rank
 pub kind-of : (ks : List ℕ) (k r n : ℕ) → Some r ≡ rankIn ks k → r ≡ n → Kind ks k n

@@ -2,23 +2,16 @@
 use mathlib.Core.Bool.{Bool}
 use mathlib.Core.List.{List}
 use Prim.Native.Nat.{ℕ}
-use Rattle.std.specs.declared.option.Option.{Option}
-use Rattle.std.specs.declared.option.Option.the-variants.{Some, None}
 use Rattle.std.specs.declared.result.Result.{Result}
-use Rattle.std.specs.declared.result.Result.the-variants.{Err}
 use Rattle.ruling.specs.declared.refusal.Refusal.{Refusal}
 use Rattle.ruling.specs.Trees.{Tree, nodeCount}
 use Rattle.ruling.specs.Meanings.{Meaning, accepts}
+use Rattle.ruling.specs.Checks.{unless}
 use Rattle.ruling.specs.KindLists.{kindsFault}
 use Rattle.judging.specs.declared.tally.Size.{Size}
 use Rattle.record.specs.Reading.{after, readRecord}
 use Rattle.judging.specs.Walking.{walked}
 use Rattle.judging.specs.Tallies.{sizeOf}
-
--- The answer, unless a check before it finds a fault.
-abbrev pub unless : {A : Type 0} → Option Refusal → Result A Refusal → Result A Refusal
-unless (Some e) r = Err e
-unless None r = r
 
 -- Judging the record t, read under the kinds ks, with `room` slots: 7, then 13, then whether it is accepted.
 abbrev pub judged : Meaning → List ℕ → Tree → ℕ → Result Bool Refusal

@@ -1,5 +1,4 @@
 -- In reading order.
-pub mod Stacks
 pub mod Reckonings
 pub mod Walking
 pub mod States

@@ -1,7 +1,6 @@
-// Walking records: a stack that the caller lends, reckonings, the one walk, judge and measure.
+// Walking records: reckonings, the one walk, judge and measure.
 mod judging;
 mod reckoning;
-mod stack;
 mod states;
 mod tally;
 mod walking;
@@ -10,7 +9,6 @@ pub use judging::judge;
 pub use judging::judge_bytes;
 pub use judging::measure;
 pub use reckoning::Reckoning;
-pub use stack::Stack;
 pub use states::States;
 pub use states::StatesReckoning;
 pub use tally::Size;

@@ -4,14 +4,14 @@ ghost use Rattle.ruling.specs.Checks.{Kept};
 ghost use Rattle.ruling.specs.Listed.{listOf};
 ghost use Rattle.ruling.specs.Trees.{nodeCount};
 ghost use Rattle.record.specs.Held.{treeOf};
-ghost use Rattle.judging.specs.Stacks.{live};
+ghost use Rattle.stack.specs.Stacks.{live};
 ghost use Rattle.judging.specs.Reckonings.{reckoned};
 ghost use Rattle.judging.specs.Walking.{Steps, Works, walked};
 use super::reckoning::Reckoning;
-use super::stack::Stack;
 use record::Record;
 use ruling::Kinds;
 use ruling::Refusal;
+use stack::Stack;
 
 // One node: the values of its children are replaced by its own.
 fn step<R: Reckoning>(

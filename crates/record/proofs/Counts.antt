@@ -8,17 +8,18 @@ use native.Mathlib.Omega.{arith}
 use lib.Dec.{ltb, leb}
 use lib.ListN.{length, getD, drop, length-take}
 use lib.Seq.{getD-take}
-use borrow.Author.Tests.{ltb-true, leb-true, leb-false, lt-ltb, le-ltb, lt-leb}
+use borrow.Author.Tests.{ltb-true, leb-true, leb-false, lt-ltb}
 use Rattle.std.proofs.shelf.Lists.{drop-more, drop-all, getD-past}
 use Rattle.std.specs.declared.option.Option.the-variants.{Some, None}
 use Rattle.std.specs.declared.result.Result.the-variants.{Ok, Err}
 use Rattle.ruling.specs.declared.kinds.Kinds.{Kinds}
 use Rattle.ruling.specs.declared.refusal.Refusal.{Refusal}
 use Rattle.ruling.specs.declared.refusal.Refusal.the-variants.{RecordLength, NoKind, TooFewParts, SeveralParts}
+use Rattle.ruling.specs.Checks.{unless}
 use Rattle.ruling.specs.Trees.{Tree, leaf, stem, fork}
 use Rattle.ruling.specs.KindLists.{Ranks}
 use Rattle.ruling.specs.Listed.{listOf}
-use Rattle.record.specs.Reading.{closed, nodeRead, ended, after, readFrom, readRecord}
+use Rattle.record.specs.Reading.{closed, nodeRead, ended, after, readFrom, lengthFault, readRecord}
 use Rattle.record.specs.Counting.{nodeFault}
 use Rattle.record.proofs.Exact.{read-on}
 
@@ -134,11 +135,6 @@ module _ (ks bytes : List ℕ) (i n : ℕ) (s : Standing ks bytes i n) where
       go (t ∷ []) q = absurd (e (sym q))
       go (t ∷ (u ∷ ps)) q = refl
 
--- the record of an empty list of bytes, or of too many
-pub no-bytes : (ks : List ℕ) (limit : ℕ) (bytes : List ℕ) → length bytes ≡ 0 → readRecord ks limit bytes ≡ Err (RecordLength 0)
-no-bytes ks limit bytes e =
-    ap (λ x. cond x (cond (leb (length bytes) limit) (readFrom ks 0 [] bytes) (Err (RecordLength limit))) (Err (RecordLength 0))) (le-ltb 0 (length bytes) (omega arith))
-
-pub too-long : (ks : List ℕ) (limit : ℕ) (bytes : List ℕ) → 0 < length bytes → limit < length bytes → readRecord ks limit bytes ≡ Err (RecordLength limit)
-too-long ks limit bytes a b =
-    ap₂ (λ x y. cond x (cond y (readFrom ks 0 [] bytes) (Err (RecordLength limit))) (Err (RecordLength 0))) (lt-ltb 0 (length bytes) a) (lt-leb (length bytes) limit b)
+-- the fault of a wrong length is the first
+pub wrong-length : (ks : List ℕ) (limit : ℕ) (bytes : List ℕ) (e : Refusal) → lengthFault (length bytes) limit ≡ Some e → readRecord ks limit bytes ≡ Err e
+wrong-length ks limit bytes e f = ap (λ o. unless o (readFrom ks 0 [] bytes)) f

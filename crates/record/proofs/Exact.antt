@@ -9,10 +9,12 @@ use native.Mathlib.Omega.{arith}
 use lib.Dec.{ltb, leb}
 use lib.ListN.{length, getD, length-append}
 use borrow.Author.Tests.{ltb-true, leb-true, lt-ltb, le-leb}
+use Rattle.std.specs.declared.option.Option.the-variants.{Some, None}
 use Rattle.std.specs.declared.result.Result.{Result}
 use Rattle.std.specs.declared.result.Result.the-variants.{Ok, Err}
 use Rattle.ruling.specs.declared.refusal.Refusal.{Refusal}
 use Rattle.ruling.specs.declared.refusal.Refusal.the-variants.{RecordLength, NoKind}
+use Rattle.ruling.specs.Checks.{unless}
 use Rattle.ruling.specs.Trees.{Tree, leaf, stem, fork, Kind, Over, postorder, nodeCount}
 use Rattle.record.specs.Reading.{closed, nodeRead, after, readFrom, readRecord, OneRecord}
 use Rattle.record.specs.Laws.{Written, ReadsExactly}
@@ -117,7 +119,7 @@ reads-back ks at parts (b ∷ bs) t e o = go (nodeRead ks at parts b) refl e (λ
 -- with neither too few nor too many bytes, reading is reading byte by byte
 pub within : (ks : List ℕ) (limit : ℕ) (bytes : List ℕ) → 0 < length bytes → length bytes ≤ limit → readRecord ks limit bytes ≡ readFrom ks 0 [] bytes
 within ks limit bytes a b =
-    ap₂ (λ x y. cond x (cond y (readFrom ks 0 [] bytes) (Err (RecordLength limit))) (Err (RecordLength 0))) (lt-ltb 0 (length bytes) a) (le-leb (length bytes) limit b)
+    ap₂ (λ x y. unless (cond x (cond y None (Some (RecordLength limit))) (Some (RecordLength 0))) (readFrom ks 0 [] bytes)) (lt-ltb 0 (length bytes) a) (le-leb (length bytes) limit b)
 
 pub reads-all : (ks : List ℕ) (limit : ℕ) (bytes : List ℕ) (t : Tree) → Written ks limit bytes t → readRecord ks limit bytes ≡ Ok t
 reads-all ks limit bytes t w =
@@ -131,7 +133,7 @@ reads-all ks limit bytes t w =
 pub written-all : (ks : List ℕ) (limit : ℕ) (bytes : List ℕ) (t : Tree) → readRecord ks limit bytes ≡ Ok t → Written ks limit bytes t
 written-all ks limit bytes t e = go (ltb 0 (length bytes)) (leb (length bytes) limit) refl e
   where
-    go : (x y : Bool) → leb (length bytes) limit ≡ y → cond x (cond y (readFrom ks 0 [] bytes) (Err (RecordLength limit))) (Err (RecordLength 0)) ≡ Ok t
+    go : (x y : Bool) → leb (length bytes) limit ≡ y → unless (cond x (cond y None (Some (RecordLength limit))) (Some (RecordLength 0))) (readFrom ks 0 [] bytes) ≡ Ok t
         → Written ks limit bytes t
     go true true q f =
         let w = reads-back ks 0 [] bytes t f tt in

@@ -1,6 +1,5 @@
 -- The children of a checked record.
 use mathlib.Core.Path.{_≡_, refl, _∙_, ap}
-use mathlib.Core.Bool.{true}
 use mathlib.Core.List.{List, _++_}
 use Prim.Native.Nat.{ℕ, _+_, _-_, _<_, _≤_}
 use native.Mathlib.Omega.{arith}
@@ -9,15 +8,15 @@ use lib.ListN.{length, getD, take, drop, length-append, length-take}
 use lib.Seq.{length-take-le}
 use Rattle.std.proofs.shelf.Lists.{length-drop}
 use Rattle.std.specs.Options.{isSome}
-use Rattle.std.specs.Results.{isOk}
 use Rattle.std.specs.declared.option.Option.the-variants.{Some, None}
 use Rattle.ruling.specs.Trees.{Tree, Over, postorder}
 use Rattle.record.specs.declared.record.Record.{Record}
 use Rattle.record.specs.declared.children.Span.{Span}
-use Rattle.record.specs.Reading.{readRecord, treeIn}
+use Rattle.record.specs.Reading.{treeIn, OneRecord}
 use Rattle.record.specs.Held.{bytesOf, kindsOf, treeOf}
 use Rattle.record.specs.Children.{rootKind, childrenOf, childTree, childSpan}
-use Rattle.record.proofs.HeldTree.{is-written, held-ok, held-is}
+use Rattle.record.proofs.Exact.{reads-all, one-record}
+use Rattle.record.proofs.HeldTree.{is-written, held-is}
 use Rattle.record.proofs.ChildParts.{Part, child-part, no-child, some-child, rank-children, root-rank, last-child}
 
 module _ (r : Record) (n : ℕ) where
@@ -64,8 +63,9 @@ module _ (r : Record) (n : ℕ) where
     same = omega arith
 
     -- the part as the code takes it
-    pub part-read : isOk (readRecord (kindsOf r) 4096 (take ((span .start + span .len) - span .start) (drop (span .start) (bytesOf r)))) ≡ true
-    part-read = rw same (held-ok (kindsOf r) (take (span .len) (drop (span .start) (bytesOf r))) (childTree (treeOf r) n) (part .written))
+    pub part-one : OneRecord (kindsOf r) 4096 (take ((span .start + span .len) - span .start) (drop (span .start) (bytesOf r)))
+    part-one = rw same (one-record (kindsOf r) 4096 (take (span .len) (drop (span .start) (bytesOf r))) (childTree (treeOf r) n)
+        (reads-all (kindsOf r) 4096 (take (span .len) (drop (span .start) (bytesOf r))) (childTree (treeOf r) n) (part .written)))
 
     pub part-tree : treeIn (kindsOf r) (take ((span .start + span .len) - span .start) (drop (span .start) (bytesOf r))) ≡ childTree (treeOf r) n
     part-tree = rw same (held-is (kindsOf r) (take (span .len) (drop (span .start) (bytesOf r))) (childTree (treeOf r) n) (part .written))

@@ -12,6 +12,7 @@ use Rattle.std.specs.declared.result.Result.the-variants.{Ok, Err}
 use Rattle.std.specs.Results.{valueOr}
 use Rattle.ruling.specs.declared.refusal.Refusal.{Refusal}
 use Rattle.ruling.specs.declared.refusal.Refusal.the-variants.{RecordLength, NoKind, TooFewParts, SeveralParts}
+use Rattle.ruling.specs.Checks.{unless}
 use Rattle.ruling.specs.Trees.{Tree, leaf, stem, fork, Over, postorder, nodeCount}
 
 -- A node of rank r and kind b, read at place `at`, takes its children from the parts that stand, the last part first.
@@ -43,11 +44,13 @@ abbrev pub readFrom : List ℕ → ℕ → List Tree → List ℕ → Result Tre
 readFrom ks at parts [] = ended at parts
 readFrom ks at parts (b ∷ bs) = after (nodeRead ks at parts b) (λ next. readFrom ks (suc at) next bs)
 
+-- Fault 8: n bytes are none, or more than the limit.
+abbrev pub lengthFault : ℕ → ℕ → Option Refusal
+lengthFault n limit = cond (ltb 0 n) (cond (leb n limit) None (Some (RecordLength limit))) (Some (RecordLength 0))
+
 -- The record in these bytes, or the first fault: 8, then byte by byte 9 and 10, then 11.
 abbrev pub readRecord : List ℕ → ℕ → List ℕ → Result Tree Refusal
-readRecord ks limit bytes = cond (ltb 0 (length bytes))
-    (cond (leb (length bytes) limit) (readFrom ks 0 [] bytes) (Err (RecordLength limit)))
-    (Err (RecordLength 0))
+readRecord ks limit bytes = unless (lengthFault (length bytes) limit) (readFrom ks 0 [] bytes)
 
 abbrev pub faultIn : {A : Type 0} → Result A Refusal → Option Refusal
 faultIn (Ok x) = None

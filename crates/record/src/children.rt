@@ -1,12 +1,13 @@
 ghost use mathlib.Core.Path.{_≡_};
 ghost use mathlib.Core.List.{List, _++_};
-ghost use Prim.Native.Nat.{ℕ, _+_, _<_};
+ghost use Prim.Native.Nat.{ℕ, _+_, _<_, _≤_};
 ghost use lib.Dec.{ltb};
 ghost use lib.ListN.{length, getD, take, drop};
 ghost use Rattle.std.specs.Options.{isSome};
 ghost use Rattle.std.specs.declared.option.Option.the-variants.{Some};
 ghost use Rattle.ruling.specs.Trees.{Tree, Over, postorder};
 ghost use Rattle.ruling.specs.Listed.{listOf};
+ghost use Rattle.record.specs.Reading.{OneRecord, treeIn};
 ghost use Rattle.record.specs.Held.{bytesOf, kindsOf, treeOf};
 ghost use Rattle.record.specs.Children.{rootKind, childTree, childSpan};
 use super::record::Record;
@@ -70,6 +71,20 @@ impl<'a> Record<'a> {
         }
     }
 
+    // The bytes of the child of this number.
+    fn part(&self, number: usize, span: Span) -> &'a [u8]
+        requires { ⌜ Some span ≡ childSpan (treeOf (now self)) number ⌝ }
+        ensures bytes { λ r. ⌜ now r ≡ take (span .len) (drop (span .start) (bytesOf (now (self .entry)))) ⌝ }
+        ensures inside { λ r. ⌜ span .start + length (now r) ≤ length (bytesOf (now (self .entry))) ⌝ }
+        ensures one { λ r. ⌜ OneRecord (kindsOf (now (self .entry))) 4096 (now r) ⌝ }
+        ensures tree { λ r. ⌜ treeIn (kindsOf (now (self .entry))) (now r) ≡ childTree (treeOf (now (self .entry))) number ⌝ }
+    {
+        let bytes = self.bytes;
+        let start = span.start;
+        let end = start + span.len;
+        &bytes[start..end]
+    }
+
     // The child of this number, once `find_child` has found it.
     pub fn child(&self, number: usize, span: Span) -> Record<'a>
         requires { ⌜ Some span ≡ childSpan (treeOf (now self)) number ⌝ }
@@ -78,13 +93,7 @@ impl<'a> Record<'a> {
         ensures kinds { λ r. ⌜ r .kinds ≡ now (self .entry) .kinds ⌝ }
         ensures place { λ r. ⌜ r .place ≡ now (self .entry) .place + span .start ⌝ }
     {
-        let bytes = self.bytes;
-        let start = span.start;
-        let end = start + span.len;
-        Record {
-            bytes: &bytes[start..end],
-            place: self.place + start,
-            kinds: self.kinds,
-        }
+        let bytes = self.part(number, span);
+        Record::held(bytes, self.place + span.start, self.kinds)
     }
 }

@@ -4,8 +4,9 @@ ghost use Prim.Native.Nat.{_+_, _^_, _<_};
 ghost use denote.Ref.{now};
 ghost use lib.ListN.{length};
 ghost use Rattle.std.specs.Results.{isOk};
+ghost use Rattle.ruling.specs.Trees.{nodeCount};
 ghost use Rattle.ruling.specs.Listed.{listOf};
-ghost use Rattle.record.specs.Reading.{readRecord};
+ghost use Rattle.record.specs.Reading.{readRecord, treeIn};
 use ruling::Kinds;
 
 // A checked record: a part of the caller's bytes that was found to be one record of at most 4,096 nodes.
@@ -16,5 +17,6 @@ pub struct Record<'a> {
     pub(super) place: usize,
     pub(super) kinds: Kinds,
     ghost read: { isOk (readRecord (listOf kinds) 4096 (now bytes)) ≡ true },
+    ghost counted: { length (now bytes) ≡ nodeCount (treeIn (listOf kinds) (now bytes)) },
     ghost ends: { place + length (now bytes) < 2 ^ 64 },
 }

@@ -1,7 +1,7 @@
 // Reads a script from standard input, line by line, and prints the answer to each call.
 use script::Answer;
-use script::Session;
 use script::text;
+use session::Session;
 use std::error::AnyError;
 use std::io::BufRead;
 use std::io::BufReader;

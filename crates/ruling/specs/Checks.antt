@@ -17,6 +17,11 @@ abbrev pub first : {A : Type 0} → Option A → Option A → Option A
 first (Some r) next = Some r
 first None next = next
 
+-- The answer, unless a check before it finds a fault.
+abbrev pub unless : {A E : Type 0} → Option E → Result A E → Result A E
+unless None r = r
+unless (Some e) r = Err e
+
 -- The answer r to a call whose checks find this fault, or none: the fault itself, or else a value of which P holds.
 abbrev pub Answers : {A E : Type 0} → Option E → (A → Type 0) → Result A E → Type 0
 Answers fault P (Ok x) = (fault ≡ None) × P x

@@ -1,5 +1,5 @@
 // The layer that finds a fault.
-#[derive(Clone, Copy, PartialEq, Eq, Debug)]
+#[derive(Clone, Copy)]
 pub enum Layer {
     // the list of kinds
     Kinds,

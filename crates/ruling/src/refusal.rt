@@ -1,11 +1,9 @@
 ghost use mathlib.Core.Path.{_≡_};
 ghost use Rattle.ruling.specs.Refusals.{told};
 use super::layer::Layer;
-use crate::layer::LayerDebug;
-use crate::layer::LayerPartialEq;
 
 // Why a call is refused: one variant for each cause, with what its place needs.
-#[derive(Clone, Copy, PartialEq, Eq, Debug)]
+#[derive(Clone, Copy)]
 pub enum Refusal {
     // a kind list is empty or has more than 16 kinds: its length
     KindCount(usize),
@@ -38,7 +36,7 @@ pub enum Refusal {
 }
 
 // What a refusal tells: its number, the layer that found it, and the place.
-#[derive(Clone, Copy, PartialEq, Eq, Debug)]
+#[derive(Clone, Copy)]
 pub struct Notice {
     pub number: u8,
     pub layer: Layer,

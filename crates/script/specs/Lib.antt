@@ -4,4 +4,3 @@ pub mod Left
 pub mod Arguments
 pub mod Calls
 pub mod Texts
-pub mod Sessions

@@ -2,7 +2,8 @@ ghost use denote.Ref.{now};
 ghost use mathlib.Core.Path.{_≡_};
 ghost use mathlib.Core.Bool.{false};
 ghost use Rattle.std.specs.Options.{isSome};
-ghost use Rattle.table.specs.TableFiles.{TableFile, tableFault, fileMeaning};
+ghost use Rattle.std.specs.declared.option.Option.the-variants.{None};
+ghost use Rattle.table.specs.TableFiles.{tableFault, fileMeaning};
 ghost use Rattle.table.specs.FlatTables.{ruledFile};
 use super::lookup::find_mark;
 use super::lookup::find_rank;
@@ -21,18 +22,11 @@ pub struct FlatTable<'a> {
 impl<'a> FlatTable<'a> {
     // The table of these bytes, once `check_table` has passed them with this number of states.
     pub fn make(bytes: &'a [u8], states: u16) -> FlatTable<'a>
-        requires { ⌜ TableFile (now bytes) × (states ≡ fileMeaning (now bytes) .states) ⌝ }
+        requires { ⌜ tableFault (now bytes) ≡ None ⌝ ∗ ⌜ states ≡ fileMeaning (now bytes) .states ⌝ }
         ensures kept { λ r. ⌜ now (r .bytes) ≡ now (bytes .entry) ⌝ ∗ ⌜ r .states ≡ states ⌝ }
         ensures means { λ r. ⌜ ruledFile (now (r .bytes)) (r .sound) .plain ≡ fileMeaning (now (bytes .entry)) ⌝ }
     {
         FlatTable { bytes, states }
-    }
-
-    // The bytes that the table is read from.
-    pub fn bytes(&self) -> &'a [u8]
-        ensures { λ r. ⌜ now r ≡ now (now (self .entry) .bytes) ⌝ }
-    {
-        self.bytes
     }
 }
 

@@ -7,7 +7,7 @@ use Rattle.std.specs.declared.result.Result.the-variants.{Ok}
 use Rattle.ruling.specs.Trees.{Tree}
 use Rattle.ruling.specs.Listed.{listOf}
 use Rattle.record.specs.Reading.{readFrom}
-use Rattle.judging.specs.Stacks.{live}
+use Rattle.stack.specs.Stacks.{live}
 use Rattle.judging.specs.Reckonings.{reckoned}
 use Rattle.judging.proofs.Walks.{Worked}
 use Rattle.judging.proofs.walking.work.Given as given

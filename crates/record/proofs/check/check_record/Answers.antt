@@ -3,21 +3,23 @@ use native.Mathlib.Omega.{arith}
 use Rattle.std.proofs.shelf.Results.{err-from-errBy}
 use Rattle.ruling.specs.Listed.{listOf}
 use Rattle.record.proofs.Exact.{within}
-use Rattle.record.proofs.Counts.{small-ranks, goes-on, stops, one, several, no-bytes, too-long}
+use Rattle.record.proofs.Counts.{small-ranks, goes-on, stops, one, several, wrong-length}
 use Rattle.record.proofs.Checked.{says-err, says-ok}
 use Rattle.record.proofs.check.check_record.Needs as need
 
-pub returns-then-bytes-eq0 : need.returns-then-bytes-eq0
-returns-then-bytes-eq0 c = says-err _ _ _ _ (no-bytes (listOf (c .args .kinds .now)) (c .args .limit) (c .args .bytes .now) (omega arith))
-
-pub returns-then-bytes-limit : need.returns-then-bytes-limit
-returns-then-bytes-limit c = says-err _ _ _ _ (too-long (listOf (c .args .kinds .now)) (c .args .limit) (c .args .bytes .now) (omega arith) (omega arith))
+pub returns-in-Break-check-length : need.returns-in-Break-check-length
+returns-in-Break-check-length c =
+    let ks = listOf (c .args .kinds .now) in
+    let bytes = c .args .bytes .now in
+    let p = err-from-errBy (c .from-residual .result) (c .from-residual .ensures .1) in
+    rw (p .1, p .2) (says-err ks (c .args .limit) bytes _ (wrong-length ks (c .args .limit) bytes _ (c .in-Break-check-length .ensures tt)))
 
 pub returns-in-Break-read : need.returns-in-Break-read
 returns-in-Break-read c =
     let ks = listOf (c .args .kinds .now) in
     let bytes = c .args .bytes .now in
-    let p = err-from-errBy (c .from-residual .result) (c .from-residual .ensures .1) in
+    let f = c .in-Continue-check-length .ensures tt .1 in
+    let p = err-from-errBy (c .from-residual-in-Break-read .result) (c .from-residual-in-Break-read .ensures .1) in
     let e = c .in-Break-read .ensures tt .answer in
     rw (p .1, p .2) (says-err ks (c .args .limit) bytes _
     (within ks (c .args .limit) bytes (omega arith) (omega arith) ∙ stops ks bytes _ _ (c .loop-at .inv .1) (omega arith) _ e))
@@ -32,6 +34,7 @@ pub returns-then-parts-eq1 : need.returns-then-parts-eq1
 returns-then-parts-eq1 c =
     let ks = listOf (c .args .kinds .now) in
     let bytes = c .args .bytes .now in
+    let f = c .in-Continue-check-length .ensures tt .1 in
     let w = one ks bytes _ _ (c .loop-at .inv .1) (omega arith) (omega arith) in
     says-ok ks (c .args .limit) bytes (w .0) (within ks (c .args .limit) bytes (omega arith) (omega arith) ∙ w .1)
 
@@ -39,4 +42,5 @@ pub returns-else-parts-eq1 : need.returns-else-parts-eq1
 returns-else-parts-eq1 c =
     let ks = listOf (c .args .kinds .now) in
     let bytes = c .args .bytes .now in
+    let f = c .in-Continue-check-length .ensures tt .1 in
     says-err ks (c .args .limit) bytes _ (within ks (c .args .limit) bytes (omega arith) (omega arith) ∙ several ks bytes _ _ (c .loop-at .inv .1) (omega arith) (λ e. omega arith))
