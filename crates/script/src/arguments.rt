@@ -38,7 +38,7 @@ fn capped(n: u32, digit: u8) -> u32
 }
 
 // A number of any width; none where a byte is no digit.
-pub fn number(word: &[u8]) -> Option<u32>
+pub(super) fn number(word: &[u8]) -> Option<u32>
     ensures { λ r. ⌜ r ≡ numberIn (now (word .entry)) ⌝ }
 {
     let mut n = 0;
@@ -85,7 +85,7 @@ fn hex_bytes(heap: Global, word: &[u8]) -> Result<Option<Vec<u8>>, AllocError>
 }
 
 // The bytes of a word; none where it is no bytes.
-pub fn bytes_of(heap: Global, word: &[u8]) -> Result<Option<Vec<u8>>, AllocError>
+pub(super) fn bytes_of(heap: Global, word: &[u8]) -> Result<Option<Vec<u8>>, AllocError>
     ensures { λ r. ⌜ made r (λ o. mapped vec-items o ≡ bytesIn (now (word .entry))) ⌝ }
 {
     if same_word(word, b"-") {
@@ -95,7 +95,7 @@ pub fn bytes_of(heap: Global, word: &[u8]) -> Result<Option<Vec<u8>>, AllocError
 }
 
 // The one number that is left.
-pub fn one_number(mut words: Words<'_>) -> Option<u32>
+pub(super) fn one_number(mut words: Words<'_>) -> Option<u32>
     ensures { λ r. ⌜ r ≡ oneNumber (wordsLeft (words .entry)) ⌝ }
 {
     let word = words.next()?;
@@ -106,7 +106,7 @@ pub fn one_number(mut words: Words<'_>) -> Option<u32>
 }
 
 // The three numbers that are left.
-pub fn three_numbers(mut words: Words<'_>) -> Option<(u32, u32, u32)>
+pub(super) fn three_numbers(mut words: Words<'_>) -> Option<(u32, u32, u32)>
     ensures { λ r. ⌜ r ≡ threeNumbers (wordsLeft (words .entry)) ⌝ }
 {
     let u = words.next()?;
@@ -129,7 +129,7 @@ fn room_of(words: Words<'_>) -> Option<u32>
 }
 
 // The one word of bytes that is left.
-pub fn one_bytes(heap: Global, mut words: Words<'_>) -> Result<Option<Vec<u8>>, AllocError>
+pub(super) fn one_bytes(heap: Global, mut words: Words<'_>) -> Result<Option<Vec<u8>>, AllocError>
     ensures { λ r. ⌜ made r (λ o. mapped vec-items o ≡ oneBytes (wordsLeft (words .entry))) ⌝ }
 {
     let Some(word) = words.next() else {
@@ -142,7 +142,7 @@ pub fn one_bytes(heap: Global, mut words: Words<'_>) -> Result<Option<Vec<u8>>, 
 }
 
 // The bytes that are left, and the length of a lent stack.
-pub fn bytes_and_room(
+pub(super) fn bytes_and_room(
     heap: Global,
     mut words: Words<'_>,
 ) -> Result<Option<(Vec<u8>, u32)>, AllocError>

@@ -1,6 +1,6 @@
 // The word that begins a call.
 #[derive(Clone, Copy)]
-pub enum Verb {
+pub(super) enum Verb {
     Table,
     Judge,
     Measure,

@@ -16,7 +16,7 @@ use std::alloc::AllocError;
 use std::alloc::Global;
 
 // The verb of a word; none where no call begins with it.
-pub fn verb_of(word: &[u8]) -> Option<Verb>
+fn verb_of(word: &[u8]) -> Option<Verb>
     ensures { λ r. ⌜ r ≡ verbOf (now (word .entry)) ⌝ }
 {
     if same_word(word, b"table") {

@@ -48,20 +48,20 @@ fn word_end(text: &[u8], at: usize) -> usize
 
 // The words of a line that are still to come.
 #[derive(Clone, Copy)]
-pub struct Words<'a> {
+pub(super) struct Words<'a> {
     text: &'a [u8],
     at: usize,
 }
 
 impl<'a> Words<'a> {
-    pub fn of(line: &'a [u8]) -> Words<'a>
+    pub(super) fn of(line: &'a [u8]) -> Words<'a>
         ensures { λ r. ⌜ wordsOf (drop (r .at) (now (r .text))) ≡ wordsOf (now (line .entry)) ⌝ }
     {
         Words { text: line, at: 0 }
     }
 
     // The next word; none where no word is left.
-    pub fn next(&mut self) -> Option<&'a [u8]>
+    pub(super) fn next(&mut self) -> Option<&'a [u8]>
         ensures { λ r. ⌜ Next (wordsOf (drop (now (self .entry) .at) (now (now (self .entry) .text)))) (wordsOf (drop (now (self .exit) .at) (now (now (self .exit) .text)))) r ⌝ }
     {
         let text = self.text;
@@ -79,7 +79,7 @@ impl<'a> Words<'a> {
 }
 
 // Whether a word is this one.
-pub fn same_word(word: &[u8], other: &[u8]) -> bool
+pub(super) fn same_word(word: &[u8], other: &[u8]) -> bool
     ensures { λ r. ⌜ r ≡ sameWord (now (word .entry)) (now (other .entry)) ⌝ }
 {
     if word.len() != other.len() {

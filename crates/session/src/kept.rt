@@ -6,7 +6,7 @@ ghost use Rattle.table.specs.TableFiles.{tableFault, fileMeaning};
 
 // A table file that passed its check, with the number of states that it means. It is not checked again.
 #[derive(Drop)]
-pub struct KeptTable {
+pub(super) struct KeptTable {
     pub(super) bytes: Vec<u8>,
     pub(super) states: u16,
     ghost sound: { isSome (tableFault (vec-items bytes)) ≡ false },

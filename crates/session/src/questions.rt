@@ -20,7 +20,7 @@ use std::alloc::AllocError;
 use std::alloc::Global;
 
 // Judges a record with a lent stack of this length.
-pub fn ask_judge<R: Ruling>(
+pub(super) fn ask_judge<R: Ruling>(
     heap: Global,
     ruling: &R,
     bytes: &[u8],
@@ -44,7 +44,7 @@ fn measure_bytes<R: Ruling>(ruling: &R, bytes: &[u8], slots: &mut [Size]) -> Res
 }
 
 // Measures a record, read under the ruling's kinds, with a lent stack of this length.
-pub fn ask_measure<R: Ruling>(
+pub(super) fn ask_measure<R: Ruling>(
     heap: Global,
     ruling: &R,
     bytes: &[u8],
@@ -70,7 +70,7 @@ pub fn ask_measure<R: Ruling>(
 }
 
 // The rank of a kind of any width.
-pub fn ask_rank<R: Ruling>(ruling: &R, kind: u32) -> Answer
+pub(super) fn ask_rank<R: Ruling>(ruling: &R, kind: u32) -> Answer
     ensures { λ r. ⌜ r ≡ numberOr (rankIn (R·Ruling .meaning (now (ruling .entry)) .plain .kinds) kind) ⌝ }
 {
     if kind > 255 {
@@ -83,7 +83,7 @@ pub fn ask_rank<R: Ruling>(ruling: &R, kind: u32) -> Answer
 }
 
 // The target of numbers of any width.
-pub fn ask_target<R: Ruling>(ruling: &R, kind: u32, a: u32, b: u32) -> Answer
+pub(super) fn ask_target<R: Ruling>(ruling: &R, kind: u32, a: u32, b: u32) -> Answer
     ensures { λ r. ⌜ r ≡ numberOr (targeted (R·Ruling .meaning (now (ruling .entry)) .plain) kind a b) ⌝ }
 {
     if kind > 255 || a > 65535 || b > 65535 {
@@ -96,7 +96,7 @@ pub fn ask_target<R: Ruling>(ruling: &R, kind: u32, a: u32, b: u32) -> Answer
 }
 
 // The mark of a state of any width.
-pub fn ask_mark<R: Ruling>(ruling: &R, state: u32) -> Answer
+pub(super) fn ask_mark<R: Ruling>(ruling: &R, state: u32) -> Answer
     ensures { λ r. ⌜ r ≡ markOr (marked (R·Ruling .meaning (now (ruling .entry)) .plain) state) ⌝ }
 {
     if state > 65535 {

@@ -2,6 +2,7 @@ ghost use mathlib.Core.Path.{_≡_};
 ghost use mathlib.Core.List.{_∷_};
 ghost use Prim.Native.Nat.{_+_, _<_};
 ghost use lib.ListN.{length, getD, set};
+ghost use Rattle.std.specs.Vec.{made};
 ghost use Rattle.ruling.specs.Checks.{Answers, Kept};
 ghost use Rattle.stack.specs.Stacks.{live, fullFault, Popped};
 use ruling::Refusal;
@@ -41,6 +42,7 @@ impl<'a, V: Copy> Stack<'a, V> {
         ensures len { λ r. ⌜ Kept r (now (self .entry) .len) (now (self .exit) .len) ⌝ }
         ensures slots { λ r. ⌜ Kept r (now (now (self .entry) .slots)) (now (now (self .exit) .slots)) ⌝ }
         ensures room { λ r. ⌜ length (now (now (self .exit) .slots)) ≡ length (now (now (self .entry) .slots)) ⌝ }
+        ensures written { λ r. ⌜ made r (λ _. (now (self .exit) .len ≡ now (self .entry) .len + 1) × (now (now (self .exit) .slots) ≡ set (now (now (self .entry) .slots)) (now (self .entry) .len) value)) ⌝ }
     {
         let at = self.len;
         let room = self.slots.len();
