@@ -12,8 +12,6 @@ pub use reckoning::Reckoning;
 pub use states::States;
 pub use states::StatesReckoning;
 pub use tally::Size;
-pub use tally::SizeDebug;
-pub use tally::SizePartialEq;
 pub use tally::Tally;
 pub use tally::TallyReckoning;
 pub use walking::walk;

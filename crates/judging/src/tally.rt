@@ -2,7 +2,7 @@ ghost use Rattle.judging.specs.Tallies.{leafSize, stemSize, forkSize};
 use super::reckoning::Reckoning;
 
 // A record's number of nodes and its height, a leaf having height 0.
-#[derive(Clone, Copy, PartialEq, Eq, Debug)]
+#[derive(Clone, Copy)]
 pub struct Size {
     pub nodes: u64,
     pub height: u64,

@@ -2,12 +2,8 @@ use super::no_road::NoRoad;
 use super::no_road::NoRoadRuling;
 use encoder::Table;
 use encoder::encode;
-use judging::Size;
-use judging::SizeDebug;
-use judging::SizePartialEq;
 use judging::judge;
 use judging::judge_bytes;
-use judging::measure;
 use record::MAX_NODES;
 use record::Record;
 use record::check_record;
@@ -44,53 +40,6 @@ fn opening() -> Result<(), Fail> {
     check_eq(refused(check_opening(&[1, 2])), Some((3, 0)))?;
     check_eq(refused(check_ranks(&[1, 2])), None)?;
     check(matches!(Refusal::PairTooLarge(1120).notice().layer, Layer::Ruling))
-}
-
-#[test]
-fn faults() -> Result<(), Fail> {
-    let Ok(()) = check_ranks(&RANKS) else {
-        return Err(Fail::new("kinds"));
-    };
-    let kinds = Kinds::make(&RANKS);
-    check_eq(
-        refused(check_record(&kinds, &[2], MAX_NODES)),
-        Some((10, 0)),
-    )?;
-    check_eq(
-        refused(check_record(&kinds, &[0, 1], MAX_NODES)),
-        Some((11, 2)),
-    )?;
-    check_eq(refused(check_record(&kinds, &[4], MAX_NODES)), Some((9, 0)))?;
-    check_eq(refused(check_record(&kinds, &[], MAX_NODES)), Some((8, 0)))?;
-    check_eq(refused(check_record(&kinds, &NESTED, 6)), Some((8, 6)))?;
-    check_eq(refused(check_record(&kinds, &NESTED, 7)), None)
-}
-
-#[test]
-fn sizes() -> Result<(), Fail> {
-    let Ok(()) = check_ranks(&RANKS) else {
-        return Err(Fail::new("kinds"));
-    };
-    let kinds = Kinds::make(&RANKS);
-    let Ok(()) = check_record(&kinds, &NESTED, MAX_NODES) else {
-        return Err(Fail::new("a record"));
-    };
-    let record = Record::make(&NESTED, kinds);
-    let mut slots = [Size {
-        nodes: 0,
-        height: 0,
-    }; 7];
-    check_eq(refused(measure(&record, &mut slots[0..6])), Some((13, 7)))?;
-    match measure(&record, &mut slots) {
-        Ok(size) => check_eq(
-            size,
-            Size {
-                nodes: 7,
-                height: 3,
-            },
-        ),
-        Err(_) => Err(Fail::new("room for seven")),
-    }
 }
 
 #[test]
