@@ -7,8 +7,8 @@
  *   not null, even where the length is 0;
  * - nobody writes to that memory while the call runs.
  * Nothing is asked of the bytes: whatever they hold, the call answers.
- * The functions hold no state and allocate nothing; judge takes about 9 KB of
- * the caller's stack.
+ * The functions hold no state and allocate nothing; judge keeps 8 KB of slots
+ * on the caller's stack, beside its frames, which nobody has measured.
  */
 #ifndef RULEBOOKS_H
 #define RULEBOOKS_H
