@@ -1,4 +1,6 @@
 // The functions that a C program calls; include/rulebooks.h declares them.
+#![tactic(auto)]
+
 ghost use Rattle.std.specs.Prelude.{◌≡◌};
 ghost use Rattle.capi.specs.Codes.{code_of, file_verdict};
 

@@ -1,4 +1,6 @@
 // Prints the target questions of reductions, part by part, for the inputs that measurements are made on.
+#![tactic(auto)]
+
 mod measure;
 mod outcome;
 mod questions;

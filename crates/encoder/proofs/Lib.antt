@@ -1,5 +1,5 @@
+pub mod Copies
 pub mod Writing
 pub mod Blocks
 pub mod Held
 pub mod FileLayout
-pub mod Copies

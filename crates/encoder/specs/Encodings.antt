@@ -4,11 +4,10 @@ use Rattle.ruling.specs.declared.refusal.Refusal.{Refusal}
 use Rattle.ruling.specs.declared.refusal.Refusal.TheVariants.{BufferTooShort}
 use Rattle.ruling.specs.KindLists.{KindList, has_leaf}
 use Rattle.ruling.specs.Meanings.{Meaning, Complete}
-use Rattle.ruling.specs.ReducedTables.{Equal}
 use Rattle.ruling.specs.Written.{blocks, file}
 use Rattle.encoder.specs.declared.table_data.TableData.{TableData}
 use Rattle.table.specs.TableFiles.{table_fault, file_meaning}
-use Rattle.encoder.specs.Tables.{table_meaning}
+use Rattle.encoder.specs.Tables.{table_meaning, Equal}
 
 -- The file of a table.
 abbrev pub table_bytes : TableData → List ℕ

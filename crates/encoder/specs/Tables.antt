@@ -1,9 +1,9 @@
--- A table in memory: what it means.
-use Rattle.std.specs.Prelude.{◌≡◌, ℕ, ◌+◌, ◌*◌, ◌<◌, ◌≤◌, false, List, length, take, slice_index, slice_index_or}
+-- A table in memory: what it means, and the table that a ruling is copied into.
+use Rattle.std.specs.Prelude.{◌≡◌, ℕ, ◌+◌, ◌*◌, ◌<◌, ◌≤◌, Bool, true, false, ◌&&◌, List, length, take, nat_le, slice_index, slice_index_or}
 use Rattle.std.proofs.Common.{arith}
 use Rattle.std.specs.Option.{unwrap_or}
-use Rattle.ruling.specs.KindLists.{Ranks}
-use Rattle.ruling.specs.Meanings.{Meaning, Complete}
+use Rattle.ruling.specs.KindLists.{Ranks, has_leaf}
+use Rattle.ruling.specs.Meanings.{Meaning, Fits, Complete}
 use Rattle.ruling.specs.Questions.{rank_in, targeted, marked}
 use Rattle.ruling.specs.Rulings.{Ruled}
 use Rattle.encoder.specs.declared.table_data.TableData.{TableData}
@@ -34,17 +34,21 @@ ruled_table t some few counted ranks states limit complete = record {
   complete = complete;
 }
 
--- The table holds the answers of what m means, and 0 or no where there is none.
+-- Two meanings are the same: kinds, states, the marks of the states, the targets of the argument lists.
+pub record Equal (m p : Meaning) : Type 0 where
+  pub kinds : m.kinds ≡ p.kinds
+  pub states : m.states ≡ p.states
+  pub mark : (s : ℕ) → s < m.states → m.mark s ≡ p.mark s
+  pub target : (k a b : ℕ) → Fits m.kinds m.states k a b → m.target k a b ≡ p.target k a b
+
+-- A table in memory has at most 32 states and a kind of rank 0.
+abbrev pub tabled : Meaning → Bool
+tabled m = nat_le m.states 32 && has_leaf m.kinds
+
+-- The table holds the ruling's answers, and 0 or no where there is none.
 pub record CopyOf (m : Meaning) (t : TableData) : Type 0 where
   pub count : t.count ≡ length m.kinds
   pub ranks : (k : ℕ) → k < 16 → slice_index t.ranks k ≡ unwrap_or (rank_in m.kinds k) 0
   pub states : t.states ≡ m.states
   pub marks : (s : ℕ) → s < 32 → slice_index_or t.marks s false ≡ unwrap_or (marked m s) false
   pub cells : (k a b : ℕ) → k < 16 → a < 32 → b < 32 → slice_index t.cells (cell_place k a b) ≡ unwrap_or (targeted m k a b) 0
-
--- A table holds nothing beside its meaning: what no kind, no state and no argument list uses is 0, or no.
-pub record Clean (t : TableData) : Type 0 where
-  pub copy : CopyOf (table_meaning t) t
-  pub ranks_room : length t.ranks ≡ 16
-  pub marks_room : length t.marks ≡ 32
-  pub cells_room : length t.cells ≡ 16384

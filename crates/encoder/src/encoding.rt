@@ -1,8 +1,7 @@
 ghost use Rattle.std.specs.Prelude.{◌≡◌, ◌≤◌, ◌++◌, length, drop, None};
 ghost use Rattle.ruling.specs.Checks.{Answers, Kept};
-ghost use Rattle.ruling.specs.ReducedTables.{Equal};
 ghost use Rattle.table.specs.TableFiles.{table_fault, file_meaning};
-ghost use Rattle.encoder.specs.Tables.{table_meaning};
+ghost use Rattle.encoder.specs.Tables.{table_meaning, Equal};
 ghost use Rattle.encoder.specs.Encodings.{Wrote, room_fault, table_bytes, FilesRead};
 
 use super::shape::{block_len, body_at};

@@ -1,4 +1,7 @@
 // Tables in memory, and the files that are written from them.
+#![tactic(auto)]
+
+mod copy;
 mod encoding;
 mod places;
 mod put;
@@ -10,6 +13,5 @@ mod write_blocks;
 mod write_front;
 
 pub use encoding::{encode, encoded_len};
-pub use places::cell_place;
 pub use table::Table;
 pub use table_data::TableData;

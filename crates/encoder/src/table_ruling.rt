@@ -26,7 +26,7 @@ fn held_target(table: &TableData, kind: u8, a: u16, b: u16) -> Option<u16>
     if !fits_rank(rank, table.states as u16, a, b) {
         return None;
     }
-    let place = cell_place(kind, a as u8, b as u8);
+    let place = cell_place(kind as usize, a as usize, b as usize);
     Some(table.cells[place] as u16)
 }
 

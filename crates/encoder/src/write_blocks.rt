@@ -22,7 +22,7 @@ fn write_row(
 {
     let mut at = start;
     for b in 0..count {
-        let cell = table.inner.cells[cell_place(kind as u8, a as u8, b as u8)];
+        let cell = table.inner.cells[cell_place(kind, a, b)];
         at = put(out, at, cell);
     }
     at

@@ -1,4 +1,6 @@
 // Walking records: reckonings, the one walk, judge and measure.
+#![tactic(auto)]
+
 mod judging;
 mod reckoning;
 mod states;

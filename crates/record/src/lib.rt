@@ -1,4 +1,6 @@
 // Records: reading them, checked records and their children. The definitions are in specs/.
+#![tactic(auto)]
+
 mod check;
 mod children;
 mod held;

@@ -1,4 +1,6 @@
 // From any ruling to the one smallest table of its set.
+#![tactic(auto)]
+
 mod begin;
 mod division;
 mod fill;

@@ -1,4 +1,6 @@
 // Reads a script from standard input, line by line, and prints the answer to each call.
+#![tactic(auto)]
+
 use anyhow::anyhow;
 use script::{Answer, text};
 use session::Session;
@@ -9,10 +11,9 @@ fn answer_line(rt: &HostRuntime, session: &mut Session, line: &[u8]) -> anyhow::
     let Some(answer) = session.respond(rt.alloc(), line)? else {
         return Ok(false);
     };
-    let wrong = matches!(answer, Answer::NoCall);
     let shown = text(rt.alloc(), answer)?;
     println!(rt; "{shown}")?;
-    Ok(wrong)
+    Ok(matches!(answer, Answer::NoCall))
 }
 
 fn run(rt: &HostRuntime) -> anyhow::Result<()> {

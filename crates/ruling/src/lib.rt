@@ -1,4 +1,6 @@
 // The ground of the house: kinds, refusals and the interface of a ruling. The definitions are in specs/.
+#![tactic(auto)]
+
 mod compare;
 mod fitting;
 mod kind_list;

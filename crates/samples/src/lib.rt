@@ -1,4 +1,6 @@
 // Rulings for trials and measurements, and a layer that counts the questions of a ruling.
+#![tactic(auto)]
+
 mod arithmetic;
 mod counted;
 mod drawing;

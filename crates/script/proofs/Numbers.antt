@@ -1,11 +1,10 @@
 -- Numbers and bytes, digit by digit.
-use Rattle.std.proofs.Common.{◌≡◌, ℕ, zero, suc, ◌+◌, ◌-◌, ◌*◌, ◌/◌, ◌%◌, ◌<◌, ◌≤◌, min, List, [], ◌∷◌, ◌++◌, length, get_or, drop, Some, None, Option, sym, refl, ap, ◌∙◌, ap₂, append_assoc, arith}
+use Rattle.std.proofs.Common.{◌≡◌, ℕ, zero, suc, ◌+◌, ◌-◌, ◌*◌, ◌<◌, ◌≤◌, min, List, [], ◌∷◌, ◌++◌, length, get_or, drop, Some, None, Option, sym, refl, ap, ◌∙◌, ap₂, append_assoc, arith}
 use native.Mathlib.Decide.{dec_le}
 use native.Mathlib.Nat.{min-eq_left, min-eq_right}
 use Rattle.std.specs.Option.{option_map}
 use Rattle.std.proofs.lemmas.List.{drop_more, drop_all}
 use Rattle.script.specs.Arguments.{given, digit, numeral, hex_byte, hex_bytes}
-use Rattle.script.specs.Texts.{hex_sign, hex_signs}
 
 abbrev capped : ℕ → ℕ
 capped n = min n 65536
@@ -54,13 +53,3 @@ half_left word i e = ap hex_bytes (drop_more word i 0 (omega arith) ∙ ap (λ x
 
 pub none_left : (word : List ℕ) (i : ℕ) → length word ≤ i → hex_bytes (drop i word) ≡ Some []
 none_left word i l = ap hex_bytes (drop_all i word l)
-
--- the two digits of one byte more
-pub signs_more : (line bytes : List ℕ) (i : ℕ) → i < length bytes → line ++ hex_signs (drop i bytes)
-    ≡ ((line ++ (hex_sign (get_or bytes i 0 / 16) ∷ [])) ++ (hex_sign (get_or bytes i 0 % 16) ∷ [])) ++ hex_signs (drop (i + 1) bytes)
-signs_more line bytes i l =
-    let h = hex_sign (get_or bytes i 0 / 16) in
-    let m = hex_sign (get_or bytes i 0 % 16) in
-    let rest = hex_signs (drop (i + 1) bytes) in
-    ap (λ bs. line ++ hex_signs bs) (drop_more bytes i 0 l)
-    ∙ sym (append_assoc (line ++ (h ∷ [])) (m ∷ []) rest ∙ append_assoc line (h ∷ []) (m ∷ rest))

@@ -57,12 +57,11 @@ three_numbers [] = None
 three_numbers (u ∷ []) = None
 three_numbers (u ∷ (v ∷ ws)) = given (number_in u) (λ k. given (number_in v) (λ a. given (one_number ws) (λ b. Some (k, a, b))))
 
--- The length of a lent stack or buffer; where none is given, it is long enough.
-abbrev pub room_in : ℕ → List (List ℕ) → Option ℕ
-room_in enough [] = Some enough
-room_in enough (w ∷ ws) = one_number (w ∷ ws)
+-- The length of a lent stack; where none is given, it is long enough for every record.
+abbrev pub room_in : List (List ℕ) → Option ℕ
+room_in [] = Some 4096
+room_in (w ∷ ws) = one_number (w ∷ ws)
 
--- A stack of 4,096 slots is long enough for every record.
 abbrev pub bytes_and_room : List (List ℕ) → Option (List ℕ × ℕ)
 bytes_and_room [] = None
-bytes_and_room (w ∷ ws) = given (room_in 4096 ws) (λ room. given (bytes_in w) (λ bs. Some (bs, room)))
+bytes_and_room (w ∷ ws) = given (room_in ws) (λ room. given (bytes_in w) (λ bs. Some (bs, room)))

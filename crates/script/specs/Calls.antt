@@ -1,30 +1,24 @@
 -- What a line of a script says.
-use Rattle.std.specs.Prelude.{ℕ, cond, List, [], ◌∷◌, Some, None, vec_items, codes, Option}
+use Rattle.std.specs.Prelude.{ℕ, Bool, cond, List, [], ◌∷◌, Some, None, vec_items, codes, Option}
 use Rattle.std.specs.Option.{option_map}
 use Rattle.script.specs.declared.call.Verb.{Verb}
-use Rattle.script.specs.declared.call.Verb.TheVariants.{Table, Reduce, Write, Judge, Measure, States, Rank, Target, Mark}
+use Rattle.script.specs.declared.call.Verb.TheVariants.{Table, Judge, Measure, States, Rank, Target, Mark}
 use Rattle.script.specs.declared.call.Call.{Call}
 use Rattle.script.specs.declared.call.Call.TheVariants as call
 use Rattle.script.specs.declared.call.Line.{Line}
 use Rattle.script.specs.declared.call.Line.TheVariants as line
 use Rattle.script.specs.Words.{words_of, same_word}
-use Rattle.script.specs.Arguments.{given, one_bytes, one_number, three_numbers, room_in, bytes_and_room}
+use Rattle.script.specs.Arguments.{given, one_bytes, one_number, three_numbers, bytes_and_room}
 
--- What the kept ruling is asked.
-pub data Question : Type 0 where
-  judge : List ℕ → ℕ → Question
-  measure : List ℕ → ℕ → Question
-  states : Question
-  rank : ℕ → Question
-  target : ℕ → ℕ → ℕ → Question
-  mark : ℕ → Question
-
--- A call with what it is given: a new table file, the reduction of the kept one, its bytes into a buffer of some length, or a question.
+-- A call with what it is given.
 pub data Order : Type 0 where
   table : List ℕ → Order
-  reduce : Order
-  write : ℕ → Order
-  ask : Question → Order
+  judge : List ℕ → ℕ → Order
+  measure : List ℕ → ℕ → Order
+  states : Order
+  rank : ℕ → Order
+  target : ℕ → ℕ → ℕ → Order
+  mark : ℕ → Order
 
 -- A line says nothing, no call, or a call.
 pub data Said : Type 0 where
@@ -35,31 +29,26 @@ pub data Said : Type 0 where
 -- The word that begins a call.
 abbrev pub verb_of : List ℕ → Option Verb
 verb_of w = cond (same_word w (codes "table")) (Some Table)
-    (cond (same_word w (codes "reduce")) (Some Reduce)
-    (cond (same_word w (codes "write")) (Some Write)
     (cond (same_word w (codes "judge")) (Some Judge)
     (cond (same_word w (codes "measure")) (Some Measure)
     (cond (same_word w (codes "states")) (Some States)
     (cond (same_word w (codes "rank")) (Some Rank)
     (cond (same_word w (codes "target")) (Some Target)
-    (cond (same_word w (codes "mark")) (Some Mark) None))))))))
+    (cond (same_word w (codes "mark")) (Some Mark) None))))))
 
--- A call that no word may follow.
 abbrev pub alone : List (List ℕ) → Order → Option Order
 alone [] o = Some o
 alone (w ∷ ws) o = None
 
--- The call of a verb with these words after it. A buffer of 65,536 bytes is long enough for every file.
+-- The call of a verb with these words after it.
 abbrev pub order_of : Verb → List (List ℕ) → Option Order
 order_of Table ws = option_map table (one_bytes ws)
-order_of Reduce ws = alone ws reduce
-order_of Write ws = option_map write (room_in 65536 ws)
-order_of Judge ws = option_map (λ p. ask (judge p.0 p.1)) (bytes_and_room ws)
-order_of Measure ws = option_map (λ p. ask (measure p.0 p.1)) (bytes_and_room ws)
-order_of States ws = alone ws (ask states)
-order_of Rank ws = option_map (λ k. ask (rank k)) (one_number ws)
-order_of Target ws = option_map (λ p. ask (target p.0 p.1 p.2)) (three_numbers ws)
-order_of Mark ws = option_map (λ s. ask (mark s)) (one_number ws)
+order_of Judge ws = option_map (λ p. judge p.0 p.1) (bytes_and_room ws)
+order_of Measure ws = option_map (λ p. measure p.0 p.1) (bytes_and_room ws)
+order_of States ws = alone ws states
+order_of Rank ws = option_map rank (one_number ws)
+order_of Target ws = option_map (λ p. target p.0 p.1 p.2) (three_numbers ws)
+order_of Mark ws = option_map mark (one_number ws)
 
 abbrev pub said_in : Option Order → Said
 said_in None = no_call
@@ -76,14 +65,12 @@ line_says text = words_say (words_of text)
 -- The call that a value of Call stands for, and what a value of Line says.
 abbrev pub order_in : Call → Order
 order_in (call.Table bytes) = table (vec_items bytes)
-order_in call.Reduce = reduce
-order_in (call.Write room) = write room
-order_in (call.Judge bytes room) = ask (judge (vec_items bytes) room)
-order_in (call.Measure bytes room) = ask (measure (vec_items bytes) room)
-order_in call.States = ask states
-order_in (call.Rank kind) = ask (rank kind)
-order_in (call.Target kind a b) = ask (target kind a b)
-order_in (call.Mark state) = ask (mark state)
+order_in (call.Judge bytes room) = judge (vec_items bytes) room
+order_in (call.Measure bytes room) = measure (vec_items bytes) room
+order_in call.States = states
+order_in (call.Rank kind) = rank kind
+order_in (call.Target kind a b) = target kind a b
+order_in (call.Mark state) = mark state
 
 abbrev pub said_by : Line → Said
 said_by line.Blank = nothing

@@ -1,11 +1,11 @@
 -- How an answer is written.
-use Rattle.std.specs.Prelude.{ℕ, ◌+◌, ◌/◌, ◌%◌, Bool, true, false, cond, List, [], ◌∷◌, ◌++◌, length, vec_items, codes, decimal, nat_lt}
+use Rattle.std.specs.Prelude.{ℕ, Bool, true, false, List, [], ◌∷◌, ◌++◌, codes, decimal}
 use Rattle.ruling.specs.declared.layer.Layer.{Layer}
 use Rattle.ruling.specs.declared.layer.Layer.TheVariants.{Kinds, Table, Ruling, Record, Book, Buffer}
 use Rattle.ruling.specs.declared.refusal.Notice.{Notice}
 use Rattle.ruling.specs.Refusals.{told}
 use Rattle.script.specs.declared.answer.Answer.{Answer}
-use Rattle.script.specs.declared.answer.Answer.TheVariants.{Kept, Wrote, Verdict, Measured, Number, Nothing, Refused, NoCall}
+use Rattle.script.specs.declared.answer.Answer.TheVariants.{Kept, Verdict, Measured, Number, Nothing, Refused, NoCall}
 
 -- The name of a layer.
 abbrev pub layer_text : Layer → List ℕ
@@ -24,27 +24,8 @@ abbrev pub verdict_text : Bool → List ℕ
 verdict_text true = codes "yes"
 verdict_text false = codes "no"
 
--- A hexadecimal digit: 0 to 9, then A to F.
-abbrev pub hex_sign : ℕ → ℕ
-hex_sign d = cond (nat_lt d 10) (48 + d) (55 + d)
-
--- Bytes in hexadecimal, two digits each.
-abbrev pub hex_signs : List ℕ → List ℕ
-hex_signs [] = []
-hex_signs (b ∷ bs) = hex_sign (b / 16) ∷ (hex_sign (b % 16) ∷ hex_signs bs)
-
--- Bytes as a script writes them: no bytes are the sign -.
-abbrev pub bytes_text : List ℕ → List ℕ
-bytes_text [] = codes "-"
-bytes_text (b ∷ bs) = hex_signs (b ∷ bs)
-
--- The bytes of a file, after their number.
-abbrev pub file_text : List ℕ → List ℕ
-file_text f = codes "wrote " ++ (decimal (length f) ++ (codes " " ++ bytes_text f))
-
 abbrev pub answer_text : Answer → List ℕ
 answer_text (Kept states) = codes "states " ++ decimal states
-answer_text (Wrote bytes) = file_text (vec_items bytes)
 answer_text (Verdict b) = verdict_text b
 answer_text (Measured nodes height) = codes "nodes " ++ (decimal nodes ++ (codes " height " ++ decimal height))
 answer_text (Number n) = decimal n

@@ -1,12 +1,10 @@
 use ruling::Refusal;
 
 // The answer to a line of a script.
-#[derive(Drop)]
+#[derive(Clone, Copy)]
 pub enum Answer {
-    // a table is kept, with so many states
+    // a table was kept, with so many states
     Kept(u16),
-    // the bytes of a file
-    Wrote(Vec<u8>),
     // yes or no
     Verdict(bool),
     // the size of a record

@@ -10,10 +10,7 @@ use std::alloc::{AllocError, Global};
 const WIDEST: u32 = 65536;
 
 // A stack of this length is long enough for every record.
-const STACK_ROOM: u32 = 4096;
-
-// A buffer of this length is long enough for every file.
-const FILE_ROOM: u32 = 65536;
+const LONG_ENOUGH: u32 = 4096;
 
 fn decimal_digit(c: u8) -> Option<u8>
     ensures value { result ≡ digit c }
@@ -113,22 +110,15 @@ pub(super) fn three_numbers(mut words: Words<'_>) -> Option<(u32, u32, u32)>
     Some((k, a, b))
 }
 
-// The length of what is lent; `enough` where none is given.
-fn room_of(words: Words<'_>, enough: u32) -> Option<u32>
-    ensures { result ≡ room_in enough (words_left words.entry) }
+// The length of a lent stack.
+fn room_of(words: Words<'_>) -> Option<u32>
+    ensures { result ≡ room_in (words_left words.entry) }
 {
     let mut rest = words;
     match rest.next() {
-        None => Some(enough),
+        None => Some(LONG_ENOUGH),
         Some(_) => one_number(words),
     }
-}
-
-// The length of a lent buffer.
-pub(super) fn buffer_room(words: Words<'_>) -> Option<u32>
-    ensures { result ≡ room_in 65536 (words_left words.entry) }
-{
-    room_of(words, FILE_ROOM)
 }
 
 // The one word of bytes that is left.
@@ -154,7 +144,7 @@ pub(super) fn bytes_and_room(
     let Some(word) = words.next() else {
         return Ok(None);
     };
-    let Some(room) = room_of(words, STACK_ROOM) else {
+    let Some(room) = room_of(words) else {
         return Ok(None);
     };
     match bytes_of(heap, word)? {

@@ -2,8 +2,6 @@
 #[derive(Clone, Copy)]
 pub(super) enum Verb {
     Table,
-    Reduce,
-    Write,
     Judge,
     Measure,
     States,
@@ -12,12 +10,10 @@ pub(super) enum Verb {
     Mark,
 }
 
-// A call with what it is given: the bytes of a table or a record, the length of a lent buffer or stack, the numbers of a question.
+// A call with what it is given: the bytes of a table or a record, the length of a lent stack, the numbers of a question.
 #[derive(Drop)]
 pub enum Call {
     Table(Vec<u8>),
-    Reduce,
-    Write(u32),
     Judge(Vec<u8>, u32),
     Measure(Vec<u8>, u32),
     States,

@@ -1,4 +1,6 @@
 // Scripts of calls, as text: reading a line into a call, writing an answer.
+#![tactic(auto)]
+
 mod answer;
 mod arguments;
 mod call;

@@ -3,7 +3,7 @@ ghost use Rattle.std.specs.Option.{option_map};
 ghost use Rattle.script.specs.Left.{words_left};
 ghost use Rattle.script.specs.Calls.{verb_of, alone, order_of, line_says, order_in, said_by};
 
-use super::arguments::{buffer_room, bytes_and_room, one_bytes, one_number, three_numbers};
+use super::arguments::{bytes_and_room, one_bytes, one_number, three_numbers};
 use super::call::{Call, Line, Verb};
 use super::words::{Words, same_word};
 use std::alloc::{AllocError, Global};
@@ -14,10 +14,6 @@ fn verb_of(word: &[u8]) -> Option<Verb>
 {
     if same_word(word, b"table") {
         Some(Verb::Table)
-    } else if same_word(word, b"reduce") {
-        Some(Verb::Reduce)
-    } else if same_word(word, b"write") {
-        Some(Verb::Write)
     } else if same_word(word, b"judge") {
         Some(Verb::Judge)
     } else if same_word(word, b"measure") {
@@ -35,21 +31,13 @@ fn verb_of(word: &[u8]) -> Option<Verb>
     }
 }
 
-// A call that no word may follow.
-fn read_alone(mut words: Words<'_>, call: Call) -> Option<Call>
-    ensures { option_map order_in result ≡ alone (words_left words.entry) (order_in call) }
+fn read_states(mut words: Words<'_>) -> Option<Call>
+    ensures { option_map order_in result ≡ order_of Verb.States (words_left words.entry) }
 {
     match words.next() {
-        None => Some(call),
+        None => Some(Call::States),
         Some(_) => None,
     }
-}
-
-fn read_write(words: Words<'_>) -> Option<Call>
-    ensures { option_map order_in result ≡ order_of Verb.Write (words_left words.entry) }
-{
-    let room = buffer_room(words)?;
-    Some(Call::Write(room))
 }
 
 fn read_rank(words: Words<'_>) -> Option<Call>
@@ -106,11 +94,9 @@ fn read_call(heap: Global, verb: Verb, words: Words<'_>) -> Result<Option<Call>,
 {
     match verb {
         Verb::Table => read_table(heap, words),
-        Verb::Reduce => Ok(read_alone(words, Call::Reduce)),
-        Verb::Write => Ok(read_write(words)),
         Verb::Judge => read_judge(heap, words),
         Verb::Measure => read_measure(heap, words),
-        Verb::States => Ok(read_alone(words, Call::States)),
+        Verb::States => Ok(read_states(words)),
         Verb::Rank => Ok(read_rank(words)),
         Verb::Target => Ok(read_target(words)),
         Verb::Mark => Ok(read_mark(words)),

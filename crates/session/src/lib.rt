@@ -1,5 +1,6 @@
 // A script's session: it keeps a table file, makes calls and answers lines.
-mod files;
+#![tactic(auto)]
+
 mod kept;
 mod questions;
 mod serving;

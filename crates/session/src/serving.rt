@@ -1,8 +1,7 @@
-ghost use Rattle.std.specs.Prelude.{◌≡◌, IfOk, None};
-ghost use Rattle.ruling.specs.Checks.{Kept};
+ghost use Rattle.std.specs.Prelude.{◌≡◌, is_ok, IfOk, if◌then◌else◌, None};
 ghost use Rattle.table.specs.TableFiles.{table_fault};
 ghost use Rattle.script.specs.Calls.{judge, measure, states, rank, target, mark, order_in, line_says};
-ghost use Rattle.session.specs.Sessions.{file_in, table_answer, table_kept, answer_to, Served, Responded};
+ghost use Rattle.session.specs.Sessions.{file_in, table_answer, table_kept, answer_to, keptAfter, lineAnswer, lineKept};
 
 use super::kept::KeptTable;
 use super::questions::{ask_judge, ask_mark, ask_measure, ask_rank, ask_target};
@@ -10,7 +9,15 @@ use super::session::Session;
 use ruling::Ruling;
 use script::{Answer, Call, Line, read_line};
 use std::alloc::{AllocError, Global};
-use table::check_table;
+use table::{FlatTable, check_table};
+
+impl KeptTable {
+    fn flat(&self) -> FlatTable<'_>
+        ensures { result.bytes.now ≡ self.now.bytes.items }
+    {
+        FlatTable::make(self.bytes.as_slice(), self.states)
+    }
+}
 
 impl Session {
     // A session that keeps no table yet.
@@ -90,13 +97,11 @@ impl Session {
 
     // Makes a call. It fails only for want of memory, and then nothing changes.
     pub fn serve(&mut self, heap: Global, call: Call) -> Result<Answer, AllocError>
-        ensures served { IfOk result (λ a. Served (file_in self.old) (order_in call) a (file_in self.new)) }
-        ensures kept { Kept result (file_in self.old) (file_in self.new) }
+        ensures answer { IfOk result (λ a. a ≡ answer_to (file_in self.old) (order_in call)) }
+        ensures kept { file_in self.new ≡ (if is_ok result then keptAfter (file_in self.old) (order_in call) else file_in self.old) }
     {
         match call {
             Call::Table(bytes) => Ok(self.keep(bytes)),
-            Call::Reduce => self.reduce(heap),
-            Call::Write(room) => self.write(heap, room),
             Call::Judge(bytes, room) => self.judge(heap, bytes.as_slice(), room),
             Call::Measure(bytes, room) => self.measure(heap, bytes.as_slice(), room),
             Call::States => Ok(self.states()),
@@ -108,8 +113,8 @@ impl Session {
 
     // Answers a line; nothing where it says nothing. It fails only for want of memory, and then nothing changes.
     pub fn respond(&mut self, heap: Global, line: &[u8]) -> Result<Option<Answer>, AllocError>
-        ensures responded { IfOk result (λ a. Responded (file_in self.old) (line_says line.now) a (file_in self.new)) }
-        ensures kept { Kept result (file_in self.old) (file_in self.new) }
+        ensures answer { IfOk result (λ a. a ≡ lineAnswer (file_in self.old) (line_says line.now)) }
+        ensures kept { file_in self.new ≡ (if is_ok result then lineKept (file_in self.old) (line_says line.now) else file_in self.old) }
     {
         match read_line(heap, line)? {
             Line::Blank => Ok(None),

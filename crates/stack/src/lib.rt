@@ -1,4 +1,6 @@
 // A stack of values in slots that the caller lends.
+#![tactic(auto)]
+
 mod stack;
 
 pub use stack::Stack;

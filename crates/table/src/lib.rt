@@ -1,4 +1,6 @@
 // The table file: its check, and the ruling that is read from it.
+#![tactic(auto)]
+
 mod byte_test;
 mod cells;
 mod check;

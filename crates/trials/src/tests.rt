@@ -1,11 +1,12 @@
 use super::no_road::NoRoad;
+use encoder::{Table, encode};
 use judging::{judge, judge_bytes};
 use record::{MAX_NODES, Record, check_record};
 use ruling::{Kinds, Layer, Refusal, check_opening, check_ranks};
 use std::test::Fail;
 
 // The number and the place of a refusal.
-pub(super) fn refused<T: Drop>(answer: Result<T, Refusal>) -> Option<(u8, usize)> {
+fn refused<T: Drop>(answer: Result<T, Refusal>) -> Option<(u8, usize)> {
     match answer {
         Ok(_) => None,
         Err(refusal) => {
@@ -95,5 +96,35 @@ fn other_kinds(rt: HostRuntime) -> Result<(), Fail> {
     };
     let record = Record::make(&[0, 2], kinds);
     assert_eq!(rt; refused(judge(&NoRoad, &record, &mut [0; 2])), Some((7, 3)));
+    Ok(())
+}
+
+// The table file of NoRoad.
+const NO_ROAD_FILE: &[u8; 34] =
+    b"\x01\x02\x04\x00\x00\x00\x01\x02\x01\x00\x1A\x00\x01\x00\x1B\x00\x01\x00\x1C\x00\x02\x00\x1E\x00\x04\x00\x00\x01\x00\x01\x00\x01\x01\x01";
+
+#[test]
+fn copied_and_encoded(rt: HostRuntime) -> Result<(), Fail> {
+    let Some(table) = Table::copied(&NoRoad) else {
+        return Err(Fail::new("it has two states and a leaf kind"));
+    };
+    let mut out = [7; 36];
+    match encode(&table, &mut out) {
+        Ok(length) => assert_eq!(rt; length, 34),
+        Err(_) => return Err(Fail::new("there is room")),
+    }
+    assert_eq!(rt; &out[0..34], NO_ROAD_FILE.as_slice());
+    assert!(rt; out[34] == 7 && out[35] == 7);
+    Ok(())
+}
+
+#[test]
+fn short_buffer(rt: HostRuntime) -> Result<(), Fail> {
+    let Some(table) = Table::copied(&NoRoad) else {
+        return Err(Fail::new("it has two states and a leaf kind"));
+    };
+    let mut out = [7; 33];
+    assert_eq!(rt; refused(encode(&table, &mut out)), Some((13, 34)));
+    assert_eq!(rt; out, [7; 33]);
     Ok(())
 }

@@ -3,4 +3,4 @@ use Rattle.ruling.proofs.Lists.{then_ranks}
 use Rattle.ruling.proofs.kind_list.check_ranks.Goals as goal
 
 pub returns : goal.returns
-returns c = then_ranks c.args.ranks.now c.check-small.result (omega arith) (omega arith) c.check-small.ensures
+returns c = then_ranks c.args.ranks.now c.check_small.result (omega arith) (omega arith) c.check_small.ensures
