@@ -4,10 +4,10 @@ use Rattle.ruling.specs.Listed.{list_of}
 use Rattle.ruling.proofs.Lists.{lists_same, same_kinds, differ_at}
 use Rattle.ruling.proofs.compare.first_difference.Goals as goal
 
-pub returns-then-not-same-rank : goal.returns-then-not-same-rank
-returns-then-not-same-rank g c = record {
+pub returns-then-not-same_rank : goal.returns-then-not-same_rank
+returns-then-not-same_rank g c = record {
   lowest = sym (differ_at (g.R.Ruling.meaning c.args.ruling.now).plain.kinds (list_of c.args.kinds.now) c.loop-kind.kind
-      (let e = c.if-not-same-rank.true in cc) c.loop-kind.invariant);
+      (let e = c.if-not-same_rank.true in cc) c.loop-kind.invariant);
   none = λ e. let z : ◌≡◌ {A = ℕ} 0 1 = cc in absurd (omega arith);
 }
 
