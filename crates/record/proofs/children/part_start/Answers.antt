@@ -5,8 +5,8 @@ use Rattle.record.proofs.Counts.{any_rank, small_ranks}
 use Rattle.record.proofs.Scan.{scans_part, scans_more, scans_none, scans_end}
 use Rattle.record.proofs.children.part_start.Goals as goal
 
-pub overflow-add-need : goal.overflow-add-need
-overflow-add-need c =
+pub overflow_add-need : goal.overflow_add-need
+overflow_add-need c =
     let h = any_rank (list_of c.args.kinds.now) (small_ranks c.args.kinds.now) (get_or c.args.bytes.now (c.loop-at.at - 1) 0) in
     omega arith
 
@@ -25,7 +25,7 @@ loop-at-preserved c =
     let ks = list_of c.args.kinds.now in
     let bytes = c.args.bytes.now in
     let h = any_rank ks (small_ranks c.args.kinds.now) (get_or bytes (c.loop-at.at - 1) 0) in
-    let m = scans_more ks bytes c.loop-at.at c.loop-at.need (c.loop-at.need - 1 + c.rank-or-zero.result) (omega arith) (omega arith) (omega arith) (omega arith) in
+    let m = scans_more ks bytes c.loop-at.at c.loop-at.need (c.loop-at.need - 1 + c.rank_or_zero.result) (omega arith) (omega arith) (omega arith) (omega arith) in
     let i = c.loop-at.invariant.2 in
     (omega arith, omega arith, omega arith)
 

@@ -3,10 +3,10 @@ use Rattle.script.specs.Arguments.{hex_bytes}
 use Rattle.script.proofs.Numbers.{onto, byte_more, onto_more, half_left, none_left}
 use Rattle.script.proofs.arguments.hex_bytes.Goals as goal
 
-pub returns-in-default : goal.returns-in-default
-returns-in-default c =
+pub returns-in_default : goal.returns-in_default
+returns-in_default c =
     let l : 2 * c.loop-i.i + 1 < length c.args.word.now = omega arith in
-    sym (c.loop-i.invariant ∙ ap (onto (vec_items c.loop-i.bytes)) (byte_more c.args.word.now (2 * c.loop-i.i) None l (sym c.in-default.ensures)))
+    sym (c.loop-i.invariant ∙ ap (onto (vec_items c.loop-i.bytes)) (byte_more c.args.word.now (2 * c.loop-i.i) None l (sym c.in_default.ensures)))
 
 pub loop-i-preserved : goal.loop-i-preserved
 loop-i-preserved c =
@@ -14,7 +14,7 @@ loop-i-preserved c =
     let xs = vec_items c.loop-i.bytes in
     let l : 2 * c.loop-i.i + 1 < length w = omega arith in
     let e : 2 * c.loop-i.i + 2 ≡ 2 * (c.loop-i.i + 1) = omega arith in
-    let m = c.in-ok-push.ensures.items in
+    let m = c.in_ok-push.ensures.items in
     c.loop-i.invariant
     ∙ (ap (onto xs) (byte_more w (2 * c.loop-i.i) (Some c.in-Some.b) l (sym c.in-Some.ensures))
     ∙ (onto_more xs c.in-Some.b (hex_bytes (drop (2 * c.loop-i.i + 2) w))

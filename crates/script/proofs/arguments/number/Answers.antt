@@ -6,20 +6,20 @@ use Rattle.script.specs.Arguments.{numeral}
 use Rattle.script.proofs.Numbers.{cap_read, digit_more}
 use Rattle.script.proofs.arguments.number.Goals as goal
 
-pub returns-in-err-d : goal.returns-in-err-d
-returns-in-err-d c =
-    c.from-residual.ensures
-    ∙ sym (c.loop-c.invariant.1 ∙ ap (option_map (λ n. min n 65536)) (digit_more c.args.word.now c.loop-c.c-index c.loop-c.n None c.loop-c-test.true (sym c.in-err-d.ensures.value)))
+pub returns-in_err-d : goal.returns-in_err-d
+returns-in_err-d c =
+    c.from_residual.ensures
+    ∙ sym (c.loop-c.invariant.1 ∙ ap (option_map (λ n. min n 65536)) (digit_more c.args.word.now c.loop-c.c-index c.loop-c.n None c.loop-c-test.true (sym c.in_err-d.ensures.value)))
 
 pub loop-c-preserved : goal.loop-c-preserved
 loop-c-preserved c =
     let w = c.args.word.now in
-    let n = c.loop-c.n * 10 + c.in-ok-d.d in
+    let n = c.loop-c.n * 10 + c.in_ok-d.d in
     let m = c.capped-n.ensures in
     let less : c.capped-n.result ≤ 65536 = rw m (min-le_right n 65536) in (
       less,
       c.loop-c.invariant.1
-          ∙ (ap (option_map (λ n. min n 65536)) (digit_more w c.loop-c.c-index c.loop-c.n (Some c.in-ok-d.d) c.loop-c-test.true (sym c.in-ok-d.ensures.value))
+          ∙ (ap (option_map (λ n. min n 65536)) (digit_more w c.loop-c.c-index c.loop-c.n (Some c.in_ok-d.d) c.loop-c-test.true (sym c.in_ok-d.ensures.value))
           ∙ (cap_read n (drop (c.loop-c.c-index + 1) w)
           ∙ ap (λ (x : ℕ). option_map (λ n. min n 65536) (numeral x (drop (c.loop-c.c-index + 1) w))) (sym m))),
     )

@@ -8,5 +8,5 @@ returns-in-0 c = pow_0 c.args.states c.args.rank (omega arith)
 pub returns-in-1 : goal.returns-in-1
 returns-in-1 c = pow_1 c.args.states c.args.rank (omega arith)
 
-pub returns-in-default : goal.returns-in-default
-returns-in-default c = pow_2 c.args.states c.args.rank (omega arith)
+pub returns-in_default : goal.returns-in_default
+returns-in_default c = pow_2 c.args.states c.args.rank (omega arith)

@@ -5,14 +5,14 @@ use Rattle.table.specs.Faults.{blocks_inside}
 use Rattle.table.specs.TableFiles.{kind_count_in, directory_fault}
 use Rattle.table.proofs.directory.check_directory.Goals as goal
 
-pub returns-in-err-from : goal.returns-in-err-from
-returns-in-err-from c =
-    let p = err_from_is_err_and c.from-residual.result c.from-residual.ensures.1 in
+pub returns-in_err-from : goal.returns-in_err-from
+returns-in_err-from c =
+    let p = err_from_is_err_and c.from_residual.result c.from_residual.ensures.1 in
     rw (p.1, p.2) (sym c.loop-kind.invariant
-    ∙ pairs_stop c.args.bytes.now c.loop-kind.from c.loop-kind.kind (kind_count_in c.args.bytes.now) (omega arith) _ c.in-err-from.ensures)
+    ∙ pairs_stop c.args.bytes.now c.loop-kind.from c.loop-kind.kind (kind_count_in c.args.bytes.now) (omega arith) _ c.in_err-from.ensures)
 
 pub loop-kind-preserved : goal.loop-kind-preserved
-loop-kind-preserved c = let e = c.in-ok-from.ensures in
+loop-kind-preserved c = let e = c.in_ok-from.ensures in
     pairs_on c.args.bytes.now c.loop-kind.from c.loop-kind.kind (kind_count_in c.args.bytes.now) (omega arith) _ e.0 e.1 ∙ c.loop-kind.invariant
 
 pub returns : goal.returns

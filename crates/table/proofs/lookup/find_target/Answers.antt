@@ -8,7 +8,7 @@ pub bounds-bytes-place : goal.bounds-bytes-place
 bounds-bytes-place c =
     let f = c.args.bytes.now in
     let t = c.requires.0 in
-    let w = a_rank (ranks_in f) c.args.kind c.in-ok-rank.rank c.in-ok-rank.ensures in
+    let w = a_rank (ranks_in f) c.args.kind c.in_ok-rank.rank c.in_ok-rank.ensures in
     let e = kind_count f (headed f t) in
     let k : c.args.kind < kind_count_in f = omega (arith, w.0) in
     let n = ap (λ (r : ℕ). cell_number (states_in f) r c.args.a c.args.b) w.1 in

@@ -3,8 +3,8 @@ use Rattle.ruling.specs.Listed.{list_of}
 use Rattle.record.proofs.HeldTree.{one_ok, is_written, count_held}
 use Rattle.record.proofs.record.Record.held.Goals as goal
 
-pub invariant-of-result : goal.invariant-of-result
-invariant-of-result c =
+pub invariant_of-result : goal.invariant_of-result
+invariant_of-result c =
     let ks = list_of c.args.kinds in
     let ok = one_ok ks c.args.bytes.now c.requires.one in
     (ok, (count_held ks c.args.bytes.now ok, (c.requires.ends, tt)))

@@ -2,14 +2,14 @@ use Rattle.std.proofs.Common.{arith}
 use Rattle.record.proofs.HeldChild.{part, part_one, part_tree, part_bytes, part_length}
 use Rattle.record.proofs.record.Record.part.Goals as goal
 
-pub overflow-add-end : goal.overflow-add-end
-overflow-add-end c =
+pub overflow_add-end : goal.overflow_add-end
+overflow_add-end c =
     let i = (part c.args.self.now c.args.number c.args.span c.requires).inside in
     let e = c.args.self.now.ends in
     omega arith
 
-pub slice-bounds-result-end : goal.slice-bounds-result-end
-slice-bounds-result-end c = (part c.args.self.now c.args.number c.args.span c.requires).inside
+pub slice_bounds-result-end : goal.slice_bounds-result-end
+slice_bounds-result-end c = (part c.args.self.now c.args.number c.args.span c.requires).inside
 
 pub returns : goal.returns
 returns c =

@@ -12,11 +12,11 @@ returns-then-self-text c =
 pub returns-then-start-end : goal.returns-then-start-end
 returns-then-start-end c =
     let text = c.args.self.now.text.now in
-    let f = c.after-blanks-start.ensures in
-    let g = c.word-end-end.ensures in
-    let e : c.after-blanks-start.result ≡ c.word-end-end.result = c.if-start-end.true in
-    let n : words_of (drop c.word-end-end.result text) ≡ _ = no_word text c.word-end-end.result (rw e at f.stops) g.stops in (
-      blanks_to text c.args.self.now.at c.after-blanks-start.result f.within.0 f.within.1 f.passed
+    let f = c.after_blanks-start.ensures in
+    let g = c.word_end-end.ensures in
+    let e : c.after_blanks-start.result ≡ c.word_end-end.result = c.if-start-end.true in
+    let n : words_of (drop c.word_end-end.result text) ≡ _ = no_word text c.word_end-end.result (rw e at f.stops) g.stops in (
+      blanks_to text c.args.self.now.at c.after_blanks-start.result f.within.0 f.within.1 f.passed
           ∙ (ap (λ (i : ℕ). words_of (drop i text)) e ∙ n),
       n,
     )
@@ -24,7 +24,7 @@ returns-then-start-end c =
 pub returns : goal.returns
 returns c =
     let text = c.args.self.now.text.now in
-    let f = c.after-blanks-start.ensures in
-    let g = c.word-end-end.ensures in
-    blanks_to text c.args.self.now.at c.after-blanks-start.result f.within.0 f.within.1 f.passed
-    ∙ one_word text c.after-blanks-start.result c.word-end-end.result (omega (arith, g.within.0)) g.within.1 g.passed g.stops
+    let f = c.after_blanks-start.ensures in
+    let g = c.word_end-end.ensures in
+    blanks_to text c.args.self.now.at c.after_blanks-start.result f.within.0 f.within.1 f.passed
+    ∙ one_word text c.after_blanks-start.result c.word_end-end.result (omega (arith, g.within.0)) g.within.1 g.passed g.stops

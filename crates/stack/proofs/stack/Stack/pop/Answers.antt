@@ -11,5 +11,5 @@ returns-then-count-eq0 g c =
 pub returns : goal.returns
 returns g c =
     let s = c.args.self.now.slots.now in
-    let e = live_pop s c.args.self.now.len c.min-count.result c.value-at-value.result c.min-count.ensures c.if-count-eq0.false in
-    record { answer = e ∙ ap (λ v. v ∷ live (c.min-count.result - 1) s) (sym c.value-at-value.ensures); slots = refl }
+    let e = live_pop s c.args.self.now.len c.min-count.result c.value_at-value.result c.min-count.ensures c.if-count-eq0.false in
+    record { answer = e ∙ ap (λ v. v ∷ live (c.min-count.result - 1) s) (sym c.value_at-value.ensures); slots = refl }
