@@ -6,5 +6,5 @@ loop-place-preserved g c = (
   simp length-set c.loop-place.invariant.0,
   below_more _ _
       (λ k h. let ne : k ≢ c.loop-place.place = omega arith in rw get_or-set_other (c.loop-place.invariant.1 k h))
-      (let lt : c.loop-place.place < length c.loop-place.cells = omega (arith, c.loop-place.invariant.0) in rw get_or-set_same c.cell-or-zero-cell.ensures),
+      (let lt : c.loop-place.place < length c.loop-place.cells = omega (arith, c.loop-place.invariant.0) in rw get_or-set_same c.cell_or_zero-cell.ensures),
 )

@@ -4,9 +4,9 @@ use Rattle.encoder.proofs.copy.data_of.Goals as goal
 
 pub returns : goal.returns
 returns g c = record {
-  count = c.len.ensures ∙ ap length c.kinds-of.ensures;
-  ranks = c.ranks-of.ensures;
+  count = c.len.ensures ∙ ap length c.kinds_of.ensures;
+  ranks = c.ranks_of.ensures;
   states = c.states.ensures;
-  marks = c.marks-of.ensures;
-  cells = cells-listed (g.R.Ruling.meaning c.args.ruling.now).plain c.cells-of.result c.cells-of.ensures;
+  marks = c.marks_of.ensures;
+  cells = cells-listed (g.R.Ruling.meaning c.args.ruling.now).plain c.cells_of.result c.cells_of.ensures;
 }

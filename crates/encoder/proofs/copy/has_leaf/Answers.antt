@@ -4,4 +4,4 @@ use Rattle.encoder.proofs.Copies.{leaf-told}
 use Rattle.encoder.proofs.copy.has_leaf.Goals as goal
 
 pub returns : goal.returns
-returns c = c.is-ok.ensures.value ∙ leaf-told (kinds_held c.args.table.now) c.check-leaf-kind.result c.check-leaf-kind.ensures
+returns c = c.is_ok.ensures.value ∙ leaf-told (kinds_held c.args.table.now) c.check_leaf_kind.result c.check_leaf_kind.ensures

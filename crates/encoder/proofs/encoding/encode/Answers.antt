@@ -16,9 +16,9 @@ returns-then-out-need c =
     let t = c.args.table.now in
     let w = files_read (table_meaning t.inner) (means t) in
     let n = length (table_bytes t.inner) in
-    let l : length c.args.out.now < n = omega (arith, c.if-out-need.true, c.encoded-len-need.ensures) in
+    let l : length c.args.out.now < n = omega (arith, c.if-out-need.true, c.encoded_len-need.ensures) in
     record {
-      answer = ap (λ b. cond b (Some (BufferTooShort n)) None) (lt-ltb (length c.args.out.now) n l) ∙ ap (λ (x : ℕ). Some (BufferTooShort x)) (sym c.encoded-len-need.ensures);
+      answer = ap (λ b. cond b (Some (BufferTooShort n)) None) (lt-ltb (length c.args.out.now) n l) ∙ ap (λ (x : ℕ). Some (BufferTooShort x)) (sym c.encoded_len-need.ensures);
       kept = refl;
       passes = w.0;
       means = w.1;
@@ -30,8 +30,8 @@ returns c =
     let t = c.args.table.now in
     let w = files_read (table_meaning t.inner) (means t) in
     let n = length (table_bytes t.inner) in
-    let l : n ≤ length c.args.out.now = omega (arith, c.if-out-need.false, c.encoded-len-need.ensures) in
-    let v = wrote_whole c.write-table.ensures in
+    let l : n ≤ length c.args.out.now = omega (arith, c.if-out-need.false, c.encoded_len-need.ensures) in
+    let v = wrote_whole c.write_table.ensures in
     record {
       answer = (ap (λ b. cond b (Some (BufferTooShort n)) None) (le-ltb (length c.args.out.now) n l), v);
       kept = tt;

@@ -17,7 +17,7 @@ loop-kind-preserved c =
     let n = held_blocks t c.args.table.now.counted in
     let l : k < length bs = omega arith in
     let j = ap length (joined_take bs k l) ∙ length-append (joined (take k bs)) (get_or bs k []) in
-    let e = c.block-len-cells.ensures in
+    let e = c.block_len-cells.ensures in
     (omega (arith, i.0, e.0, j), omega (arith, i.1, e.1))
 
 pub returns : goal.returns

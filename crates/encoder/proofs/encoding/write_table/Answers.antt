@@ -6,41 +6,41 @@ use Rattle.encoder.proofs.Blocks.{row_length, blocks_length, directory_length}
 use Rattle.encoder.proofs.FileLayout.{blocks_of, file_length}
 use Rattle.encoder.proofs.encoding.write_table.Goals as goal
 
-pub write-head-ranks-requires : goal.write-head-ranks-requires
-write-head-ranks-requires c = omega (arith, c.requires, file_length (table_meaning c.args.table.now.inner))
+pub write_head-ranks-requires : goal.write_head-ranks-requires
+write_head-ranks-requires c = omega (arith, c.requires, file_length (table_meaning c.args.table.now.inner))
 
-pub write-ranks-marks-requires : goal.write-ranks-marks-requires
-write-ranks-marks-requires c = omega (arith, c.requires, file_length (table_meaning c.args.table.now.inner), c.write-head-ranks.ensures.place, c.write-head-ranks.auto.out)
+pub write_ranks-marks-requires : goal.write_ranks-marks-requires
+write_ranks-marks-requires c = omega (arith, c.requires, file_length (table_meaning c.args.table.now.inner), c.write_head-ranks.ensures.place, c.write_head-ranks.auto.out)
 
-pub write-marks-pairs-requires : goal.write-marks-pairs-requires
-write-marks-pairs-requires c = omega (
+pub write_marks-pairs-requires : goal.write_marks-pairs-requires
+write_marks-pairs-requires c = omega (
   arith,
   c.requires,
   file_length (table_meaning c.args.table.now.inner),
-  c.write-head-ranks.ensures.place,
-  c.write-ranks-marks.ensures.place,
-  c.write-head-ranks.auto.out,
-  c.write-ranks-marks.auto.out,
+  c.write_head-ranks.ensures.place,
+  c.write_ranks-marks.ensures.place,
+  c.write_head-ranks.auto.out,
+  c.write_ranks-marks.auto.out,
 )
 
-pub write-directory-cells-requires : goal.write-directory-cells-requires
-write-directory-cells-requires c =
+pub write_directory-cells-requires : goal.write_directory-cells-requires
+write_directory-cells-requires c =
     let m = table_meaning c.args.table.now.inner in
     let d = row_length m.states (λ s. mark_byte (m.mark s)) in
     omega (
       arith,
       c.requires,
       file_length m,
-      c.write-head-ranks.ensures.place,
-      c.write-ranks-marks.ensures.place,
-      c.write-marks-pairs.ensures.place,
-      c.write-head-ranks.auto.out,
-      c.write-ranks-marks.auto.out,
-      c.write-marks-pairs.auto.out,
+      c.write_head-ranks.ensures.place,
+      c.write_ranks-marks.ensures.place,
+      c.write_marks-pairs.ensures.place,
+      c.write_head-ranks.auto.out,
+      c.write_ranks-marks.auto.out,
+      c.write_marks-pairs.auto.out,
     )
 
-pub write-blocks-requires : goal.write-blocks-requires
-write-blocks-requires c =
+pub write_blocks-requires : goal.write_blocks-requires
+write_blocks-requires c =
     let m = table_meaning c.args.table.now.inner in
     let d = row_length m.states (λ s. mark_byte (m.mark s)) in
     let e = directory_length (body_at m.states (length m.kinds)) (blocks_of m) in
@@ -49,16 +49,16 @@ write-blocks-requires c =
       arith,
       c.requires,
       file_length m,
-      c.write-head-ranks.ensures.place,
-      c.write-ranks-marks.ensures.place,
-      c.write-marks-pairs.ensures.place,
-      c.write-directory-cells.ensures.place,
-      c.write-head-ranks.auto.out,
-      c.write-ranks-marks.auto.out,
-      c.write-marks-pairs.auto.out,
-      c.write-directory-cells.auto.out,
+      c.write_head-ranks.ensures.place,
+      c.write_ranks-marks.ensures.place,
+      c.write_marks-pairs.ensures.place,
+      c.write_directory-cells.ensures.place,
+      c.write_head-ranks.auto.out,
+      c.write_ranks-marks.auto.out,
+      c.write_marks-pairs.auto.out,
+      c.write_directory-cells.auto.out,
     )
 
 pub returns : goal.returns
-returns c = wrote_more _ c.write-head-ranks.ensures (wrote_more _ c.write-ranks-marks.ensures (wrote_more _ c.write-marks-pairs.ensures
-    (wrote_more _ c.write-directory-cells.ensures c.write-blocks.ensures refl) refl) refl) refl
+returns c = wrote_more _ c.write_head-ranks.ensures (wrote_more _ c.write_ranks-marks.ensures (wrote_more _ c.write_marks-pairs.ensures
+    (wrote_more _ c.write_directory-cells.ensures c.write_blocks.ensures refl) refl) refl) refl

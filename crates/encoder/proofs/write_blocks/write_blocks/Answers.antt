@@ -7,8 +7,8 @@ use Rattle.encoder.proofs.Blocks.{joined_take, joined_within}
 use Rattle.encoder.proofs.Held.{held_blocks}
 use Rattle.encoder.proofs.write_blocks.write_blocks.Goals as goal
 
-pub write-block-at-requires : goal.write-block-at-requires
-write-block-at-requires c =
+pub write_block-at-requires : goal.write_block-at-requires
+write_block-at-requires c =
     let t = c.args.table.now.inner in
     let n = c.args.table.now.counted in
     let b = held_blocks t n in
@@ -20,7 +20,7 @@ loop-kind-preserved c =
     let t = c.args.table.now.inner in
     let n = c.args.table.now.counted in
     let b = held_blocks t n in
-    wrote_more _ c.loop-kind.invariant c.write-block-at.ensures (joined_take (table_blocks t) c.loop-kind.kind (omega arith))
+    wrote_more _ c.loop-kind.invariant c.write_block-at.ensures (joined_take (table_blocks t) c.loop-kind.kind (omega arith))
 
 pub returns : goal.returns
 returns c =

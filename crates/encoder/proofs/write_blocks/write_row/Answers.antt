@@ -11,5 +11,5 @@ loop-b-preserved c =
     let f : ℕ → ℕ = λ b. (table_meaning t).target c.args.kind c.args.a b in (
       omega (arith, c.loop-b.invariant.0, c.put-at.ensures.place),
       wrote_more _ c.loop-b.invariant.1 c.put-at.ensures
-          (row_more c.loop-b.b f ∙ ap (λ p. row c.loop-b.b f ++ (get_or t.cells p 0 ∷ [])) (sym c.cell-place.ensures)),
+          (row_more c.loop-b.b f ∙ ap (λ p. row c.loop-b.b f ++ (get_or t.cells p 0 ∷ [])) (sym c.cell_place.ensures)),
     )

@@ -18,11 +18,11 @@ loop-kind-preserved c =
     let n = held_blocks t c.args.table.now.counted in
     let l : k < length bs = omega arith in
     let j = ap length (joined_take bs k l) ∙ length-append (joined (take k bs)) (get_or bs k []) in
-    let e = c.block-len-cells.ensures in (
+    let e = c.block_len-cells.ensures in (
       omega (arith, i.0, e.0, j),
       omega (arith, i.1, e.1),
-      omega (arith, i.2, c.write-pair-at.ensures.place),
-      wrote_more _ i.3 c.write-pair-at.ensures
+      omega (arith, i.2, c.write_pair-at.ensures.place),
+      wrote_more _ i.3 c.write_pair-at.ensures
           (ap (directory from) (take_more bs k [] l) ∙ (directory_more from (take k bs) (get_or bs k [])
           ∙ ap₂ (λ x y. directory from (take k bs) ++ (low_high x ++ low_high y)) (sym i.0) (sym e.0))),
     )

@@ -10,5 +10,5 @@ loop-state-preserved c =
     let f : ℕ → ℕ = λ s. mark_byte ((table_meaning c.args.table.now.inner).mark s) in (
       omega (arith, c.loop-state.invariant.0, c.put-at.ensures.place),
       wrote_more _ c.loop-state.invariant.1 c.put-at.ensures
-          (row_more c.loop-state.state f ∙ ap (λ x. row c.loop-state.state f ++ (x ∷ [])) (sym c.mark-byte-byte.ensures)),
+          (row_more c.loop-state.state f ∙ ap (λ x. row c.loop-state.state f ++ (x ∷ [])) (sym c.mark_byte-byte.ensures)),
     )

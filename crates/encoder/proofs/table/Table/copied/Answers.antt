@@ -4,11 +4,11 @@ use Rattle.ruling.specs.KindLists.{Ranks, has_leaf}
 use Rattle.encoder.proofs.Copies.{held_kinds, held-equal, held-complete}
 use Rattle.encoder.proofs.table.Table.copied.Goals as goal
 
-pub invariant-of-result : goal.invariant-of-result
-invariant-of-result g c =
+pub invariant_of-result : goal.invariant_of-result
+invariant_of-result g c =
     let m = g.R.Ruling.meaning c.args.ruling.now in
-    let t = c.data-of-inner.result in
-    let copy = c.data-of-inner.ensures in
+    let t = c.data_of-inner.result in
+    let copy = c.data_of-inner.ensures in
     let few : m.plain.states ≤ 32 = omega arith in
     let long : length t.ranks ≡ 16 = omega arith in
     let e = held_kinds m t few long copy in (
@@ -20,7 +20,7 @@ invariant-of-result g c =
           (
             subst Ranks (sym e) m.list.2,
             (
-              sym c.if-not-has-leaf.ensures,
+              sym c.if-not-has_leaf.ensures,
               (
                 omega (arith, copy.states, m.some),
                 (
@@ -37,22 +37,22 @@ invariant-of-result g c =
 pub returns : goal.returns
 returns g c =
     let m = g.R.Ruling.meaning c.args.ruling.now in
-    let t = c.data-of-inner.result in
-    let copy = c.data-of-inner.ensures in
+    let t = c.data_of-inner.result in
+    let copy = c.data_of-inner.ensures in
     let few : m.plain.states ≤ 32 = omega arith in
     let long : length t.ranks ≡ 16 = omega arith in
     let e = held_kinds m t few long copy in
     record {
-      made = sym (and_from _ _ (le-leb m.plain.states 32 few) (ap has_leaf (sym e) ∙ sym c.if-not-has-leaf.ensures));
+      made = sym (and_from _ _ (le-leb m.plain.states 32 few) (ap has_leaf (sym e) ∙ sym c.if-not-has_leaf.ensures));
       copy = copy;
       same = held-equal m t few long copy;
     }
 
-pub returns-then-not-has-leaf : goal.returns-then-not-has-leaf
-returns-then-not-has-leaf g c =
+pub returns-then-not-has_leaf : goal.returns-then-not-has_leaf
+returns-then-not-has_leaf g c =
     let m = g.R.Ruling.meaning c.args.ruling.now in
-    let t = c.data-of-inner.result in
+    let t = c.data_of-inner.result in
     let few : m.plain.states ≤ 32 = omega arith in
     let long : length t.ranks ≡ 16 = omega arith in
-    let e = held_kinds m t few long c.data-of-inner.ensures in
-    record { made = sym (and_right _ _ (ap has_leaf (sym e) ∙ sym c.if-not-has-leaf.ensures)); copy = tt; same = tt }
+    let e = held_kinds m t few long c.data_of-inner.ensures in
+    record { made = sym (and_right _ _ (ap has_leaf (sym e) ∙ sym c.if-not-has_leaf.ensures)); copy = tt; same = tt }

@@ -7,7 +7,7 @@ pub invariant_of-result : goal.invariant_of-result
 invariant_of-result c =
     let ks = list_of c.args.kinds in
     let ok = one_ok ks c.args.bytes.now c.requires.one in
-    (ok, (count_held ks c.args.bytes.now ok, (c.requires.ends, tt)))
+    record { read = ok; counted = count_held ks c.args.bytes.now ok; ends = c.requires.ends }
 
 pub returns : goal.returns
 returns c =
