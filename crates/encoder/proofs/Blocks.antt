@@ -1,22 +1,14 @@
--- Rows, blocks and the directory of a file, one more at a time and read at a place.
-use Rattle.std.proofs.Common.{◌≡◌, ℕ, zero, suc, ◌+◌, ◌-◌, ◌*◌, ◌/◌, ◌%◌, ◌^◌, ◌<◌, ◌≤◌, cond, leb, List, [], ◌∷◌, ◌++◌, length, get_or, take, drop, sym, refl, ap, ◌∙◌, subst, ap₂, append_assoc, append-nil, add-zero, add_assoc, suc-mul, suc-add, zero-add, zero-mul, mul-suc, add-one, arith, length-append}
+-- Rows, joined blocks and the directory of a file, one more at a time and read at a place.
+use Rattle.std.proofs.Common.{◌≡◌, ℕ, zero, suc, ◌+◌, ◌-◌, ◌*◌, ◌/◌, ◌%◌, ◌^◌, ◌<◌, ◌≤◌, cond, leb, List, [], ◌∷◌, ◌++◌, length, get_or, take, sym, refl, ap, ◌∙◌, subst, ap₂, append_assoc, append-nil, add-zero, zero-add, mul-suc, add-one, arith, length-append}
 use native.Mathlib.Decide.{dec_lt}
 use Rattle.std.proofs.lemmas.List.{take_more, get_or_append_left, get_or-append-add, get_or-append_right}
 use Rattle.ruling.specs.Meanings.{Fits, none, one, two}
-use Rattle.ruling.specs.Written.{row, joined, low_high, block, blocks, directory}
+use Rattle.ruling.specs.Written.{row, joined, low_high, block, directory}
+use Rattle.ruling.proofs.Rows.{row_length, row_at, grid_length, grid_at}
 use Rattle.table.specs.TableFiles.{cell_number}
 use Rattle.table.specs.FileRuled.{pow_0, pow_1, pow_2}
 
 -- rows
-pub row_length : {A : Type 0} (n : ℕ) (f : ℕ → A) → length (row n f) ≡ n
-row_length zero f = refl
-row_length (suc n) f = ap suc (row_length n (λ i. f (suc i)))
-
-pub row_at : {A : Type 0} (n : ℕ) (f : ℕ → A) (i : ℕ) (d : A) → i < n → get_or (row n f) i d ≡ f i
-row_at zero f i d l = absurd (omega arith)
-row_at (suc n) f zero d l = refl
-row_at (suc n) f (suc i) d l = row_at n (λ i. f (suc i)) i d (omega arith)
-
 row_suc : {A : Type 0} (n : ℕ) (f : ℕ → A) → row (suc n) f ≡ row n f ++ (f n ∷ [])
 row_suc zero f = refl
 row_suc (suc n) f = ap (λ xs. f 0 ∷ xs) (row_suc n (λ i. f (suc i)))
@@ -44,16 +36,6 @@ joined_within (b ∷ bs) (suc j) l =
 pub row_joined : (n : ℕ) (f : ℕ → List ℕ) → joined (row (n + 1) f) ≡ joined (row n f) ++ f n
 row_joined n f = ap joined (row_more n f) ∙ joined_more (row n f) (f n)
 
--- blocks
-pub blocks_length : (n : ℕ) (ks : List ℕ) (f : ℕ → ℕ → ℕ → ℕ) → length (blocks n ks f) ≡ length ks
-blocks_length n [] f = refl
-blocks_length n (r ∷ ks) f = ap suc (blocks_length n ks (λ k. f (suc k)))
-
-pub blocks_at : (n : ℕ) (ks : List ℕ) (f : ℕ → ℕ → ℕ → ℕ) (k : ℕ) → k < length ks → get_or (blocks n ks f) k [] ≡ block n (get_or ks k 0) (f k)
-blocks_at n [] f k l = absurd (omega arith)
-blocks_at n (r ∷ ks) f zero l = refl
-blocks_at n (r ∷ ks) f (suc k) l = blocks_at n ks (λ k. f (suc k)) k (omega arith)
-
 -- a block as rows: of so many first children, each with so many second ones
 singles : (n : ℕ) (f : ℕ → ℕ) → joined (row n (λ a. f a ∷ [])) ≡ row n f
 singles zero f = refl
@@ -65,14 +47,6 @@ block_grid n (suc zero) f l = singles n (λ a. f a 0)
 block_grid n (suc (suc zero)) f l = refl
 block_grid n (suc (suc (suc r))) f l = absurd (omega arith)
 
-pub grid_length : (p q : ℕ) (f : ℕ → ℕ → ℕ) → length (joined (row p (λ a. row q (f a)))) ≡ p * q
-grid_length zero q f = sym (zero-mul q)
-grid_length (suc p) q f =
-    let r = grid_length p q (λ a. f (suc a)) in
-    let e = length-append (row q (f 0)) (joined (row p (λ a. row q (f (suc a))))) in
-    let l = row_length q (f 0) in
-    let m = suc-mul p q in omega arith
-
 pub block_length : (n r : ℕ) (f : ℕ → ℕ → ℕ) → r ≤ 2 → length (block n r f) ≡ n ^ r
 block_length n zero f l = pow_0 n 0 refl
 block_length n (suc zero) f l = row_length n (λ a. f a 0) ∙ pow_1 n 1 refl
@@ -80,10 +54,6 @@ block_length n (suc (suc zero)) f l = grid_length n n f ∙ pow_2 n 2 refl
 block_length n (suc (suc (suc r))) f l = absurd (omega arith)
 
 -- the directory
-pub directory_length : (at : ℕ) (bs : List (List ℕ)) → length (directory at bs) ≡ 4 * length bs
-directory_length at [] = refl
-directory_length at (b ∷ bs) = let r = directory_length (at + length b) bs in omega arith
-
 pub directory_more : (at : ℕ) (bs : List (List ℕ)) (b : List ℕ)
     → directory at (bs ++ (b ∷ [])) ≡ directory at bs ++ (low_high (at + length (joined bs)) ++ low_high (length b))
 directory_more at [] b = ap (λ x. low_high x ++ low_high (length b)) (sym (add-zero at))
@@ -109,20 +79,7 @@ joined_few (b ∷ bs) m h =
     let w = h 0 (omega arith) in
     let s = mul-suc m (length bs) in omega arith
 
--- what stands in a block
-grid_at : (p q a b : ℕ) (f : ℕ → ℕ → ℕ) → a < p → b < q → get_or (joined (row p (λ a. row q (f a)))) (a * q + b) 0 ≡ f a b
-grid_at zero q a b f l u = absurd (omega arith)
-grid_at (suc p) q zero b f l u =
-    let n = row_length q (f 0) in
-    let z : zero * q + b ≡ b = let e = zero-mul q in omega arith in
-    ap (λ i. get_or (row q (f 0) ++ joined (row p (λ a. row q (f (suc a))))) i 0) z
-    ∙ (get_or_append_left (row q (f 0)) (joined (row p (λ a. row q (f (suc a))))) 0 b (omega arith) ∙ row_at q (f 0) b 0 u)
-grid_at (suc p) q (suc a) b f l u =
-    let n = row_length q (f 0) in
-    let z : suc a * q + b ≡ length (row q (f 0)) + (a * q + b) = let e = suc-mul a q in omega arith in
-    ap (λ i. get_or (row q (f 0) ++ joined (row p (λ a. row q (f (suc a))))) i 0) z
-    ∙ (get_or-append-add (row q (f 0)) (joined (row p (λ a. row q (f (suc a))))) (a * q + b) 0 ∙ grid_at p q a b (λ a. f (suc a)) (omega arith) u)
-
+-- each cell of a block is a state
 grid_below : (p q n c : ℕ) (f : ℕ → ℕ → ℕ) → ((a b : ℕ) → a < p → b < q → f a b < n) → c < length (joined (row p (λ a. row q (f a))))
     → get_or (joined (row p (λ a. row q (f a)))) c 0 < n
 grid_below zero q n c f h l = absurd (omega arith)

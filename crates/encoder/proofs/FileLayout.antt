@@ -8,13 +8,14 @@ use Rattle.ruling.specs.Checks.{lowest}
 use Rattle.ruling.specs.KindLists.{Ranks, has_leaf}
 use Rattle.ruling.specs.Meanings.{Meaning, Fits}
 use Rattle.ruling.proofs.Lowest.{lowest_none}
+use Rattle.ruling.proofs.Rows.{row_length, row_at, blocks_length, blocks_at, directory_length, mark_told}
+use Rattle.ruling.specs.ReducedTables.{Equal}
 use Rattle.ruling.specs.Written.{row, joined, low_high, block, blocks, directory, mark_byte, body_at, file}
 use Rattle.table.specs.TableFiles.{byte_at, states_in, kind_count_in, ranks_in, rank_at, mark_place, pair_place, offset_at, length_at, cell_number, cell_at, TableFile, table_fault, missing_from, missing, led, file_meaning}
-use Rattle.encoder.specs.Tables.{Equal}
 use Rattle.encoder.specs.Encodings.{Tabled, FilesRead}
 use Rattle.table.specs.Faults.{file_faultless}
 use Rattle.table.specs.FileRuled.{fits_kind, fits_below, cell_inside}
-use Rattle.encoder.proofs.Blocks.{row_length, row_at, blocks_length, blocks_at, block_length, block_at, block_below, directory_length, joined_take, joined_within, joined_at, joined_few, past_four, pair_offset, pair_length}
+use Rattle.encoder.proofs.Blocks.{block_length, block_at, block_below, joined_take, joined_within, joined_at, joined_few, past_four, pair_offset, pair_length}
 use Rattle.encoder.proofs.Held.{power_few}
 
 -- the blocks of a meaning, its marks and its directory
@@ -159,10 +160,6 @@ not_missing f k zero h = refl
 not_missing f k (suc c) h = or_from _ _
     (ap is_some (lowest_none (λ p. eqb (byte_at f p) 255) (offset_at f k) (length_at f k) (λ p l u. h k p (omega arith) (omega arith) l u)))
     (not_missing f (suc k) c (λ j p l u. h j p (omega arith) (omega arith)))
-
-mark_told : (b : Bool) → eqb (mark_byte b) 1 ≡ b
-mark_told true = refl
-mark_told false = refl
 
 module _ (m : Meaning) (t : Tabled m) where
   none_missing : missing (file m) ≡ false

@@ -7,7 +7,8 @@ use Rattle.encoder.specs.declared.table_data.TableData.{TableData}
 use Rattle.encoder.specs.Tables.{kinds_held, table_meaning}
 use Rattle.encoder.specs.Encodings.{table_blocks}
 use Rattle.table.specs.FileRuled.{pow_0, pow_1, pow_2}
-use Rattle.encoder.proofs.Blocks.{blocks_length, blocks_at, block_grid, grid_length, block_length}
+use Rattle.ruling.proofs.Rows.{grid_length, blocks_length, blocks_at}
+use Rattle.encoder.proofs.Blocks.{block_grid, block_length}
 
 pub span_few : (b : Bool) (n : ℕ) → n ≤ 32 → cond b n 1 ≤ 32
 span_few true n l = l

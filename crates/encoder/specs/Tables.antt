@@ -3,9 +3,11 @@ use Rattle.std.specs.Prelude.{◌≡◌, ℕ, ◌+◌, ◌*◌, ◌<◌, ◌≤�
 use Rattle.std.proofs.Common.{arith}
 use Rattle.std.specs.Option.{unwrap_or}
 use Rattle.ruling.specs.KindLists.{Ranks, has_leaf}
-use Rattle.ruling.specs.Meanings.{Meaning, Fits, Complete}
+use Rattle.ruling.specs.Meanings.{Meaning, Complete}
 use Rattle.ruling.specs.Questions.{rank_in, targeted, marked}
 use Rattle.ruling.specs.Rulings.{Ruled}
+-- When two meanings are the same.
+pub use Rattle.ruling.specs.ReducedTables.{Equal}
 use Rattle.encoder.specs.declared.table_data.TableData.{TableData}
 
 -- The place of the cell of kind k and the children a and b.
@@ -34,13 +36,6 @@ ruled_table t some few counted ranks states limit complete = record {
   complete = complete;
 }
 
--- Two meanings are the same: kinds, states, the marks of the states, the targets of the argument lists.
-pub record Equal (m p : Meaning) : Type 0 where
-  pub kinds : m.kinds ≡ p.kinds
-  pub states : m.states ≡ p.states
-  pub mark : (s : ℕ) → s < m.states → m.mark s ≡ p.mark s
-  pub target : (k a b : ℕ) → Fits m.kinds m.states k a b → m.target k a b ≡ p.target k a b
-
 -- A table in memory has at most 32 states and a kind of rank 0.
 abbrev pub tabled : Meaning → Bool
 tabled m = nat_le m.states 32 && has_leaf m.kinds
@@ -52,3 +47,10 @@ pub record CopyOf (m : Meaning) (t : TableData) : Type 0 where
   pub states : t.states ≡ m.states
   pub marks : (s : ℕ) → s < 32 → slice_index_or t.marks s false ≡ unwrap_or (marked m s) false
   pub cells : (k a b : ℕ) → k < 16 → a < 32 → b < 32 → slice_index t.cells (cell_place k a b) ≡ unwrap_or (targeted m k a b) 0
+
+-- A table holds nothing beside its meaning: what no kind, no state and no argument list uses is 0, or no.
+pub record Clean (t : TableData) : Type 0 where
+  pub copy : CopyOf (table_meaning t) t
+  pub ranks_room : length t.ranks ≡ 16
+  pub marks_room : length t.marks ≡ 32
+  pub cells_room : length t.cells ≡ 16384

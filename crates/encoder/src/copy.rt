@@ -5,8 +5,8 @@ ghost use Rattle.ruling.specs.Questions.{rank_in, targeted, marked};
 ghost use Rattle.encoder.specs.Tables.{kinds_held, table_meaning, Equal, tabled, CopyOf};
 
 use super::places::cell_parts;
-use super::table::Table;
 use super::table_data::TableData;
+use super::table_in_memory::Table;
 use ruling::{Ruling, check_leaf_kind, kinds_of};
 
 const MOST_STATES: u16 = 32;

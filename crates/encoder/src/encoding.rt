@@ -5,7 +5,7 @@ ghost use Rattle.encoder.specs.Tables.{table_meaning, Equal};
 ghost use Rattle.encoder.specs.Encodings.{Wrote, room_fault, table_bytes, FilesRead};
 
 use super::shape::{block_len, body_at};
-use super::table::Table;
+use super::table_in_memory::Table;
 use super::write_blocks::write_blocks;
 use super::write_front::{write_directory, write_head, write_marks, write_ranks};
 use ruling::Refusal;

@@ -6,12 +6,13 @@ mod encoding;
 mod places;
 mod put;
 mod shape;
-mod table;
 mod table_data;
+mod table_in_memory;
 mod table_ruling;
 mod write_blocks;
 mod write_front;
 
 pub use encoding::{encode, encoded_len};
-pub use table::Table;
+pub use places::cell_place;
 pub use table_data::TableData;
+pub use table_in_memory::Table;

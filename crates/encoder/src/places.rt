@@ -7,7 +7,7 @@ const CHILD_ROOM: usize = 32;
 const KIND_ROOM: usize = 1024;
 
 // The place of the cell of a kind and two children.
-pub(super) fn cell_place(kind: usize, a: usize, b: usize) -> usize
+pub fn cell_place(kind: usize, a: usize, b: usize) -> usize
     requires { (kind < 16) × ((a < 32) × (b < 32)) }
     ensures { result ≡ cell_place kind a b }
 {

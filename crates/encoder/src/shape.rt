@@ -3,7 +3,7 @@ ghost use Rattle.ruling.specs.Written.{body_at};
 ghost use Rattle.encoder.specs.Tables.{kinds_held};
 ghost use Rattle.encoder.specs.Encodings.{table_blocks};
 
-use super::table::Table;
+use super::table_in_memory::Table;
 
 // The number of states that a child takes: all, or the one 0 where it is unused.
 pub(super) fn child_states(states: usize, used: bool) -> usize

@@ -3,8 +3,8 @@ ghost use Rattle.ruling.specs.Questions.{rank_in, targeted, marked};
 ghost use Rattle.encoder.specs.Tables.{kinds_held, table_meaning, ruled_table};
 
 use super::places::cell_place;
-use super::table::Table;
 use super::table_data::TableData;
+use super::table_in_memory::Table;
 use ruling::{Ruling, fits_rank};
 
 fn held_rank(table: &TableData, kind: u8) -> Option<u8>

@@ -6,7 +6,7 @@ ghost use Rattle.encoder.specs.Encodings.{Wrote, table_blocks};
 use super::places::cell_place;
 use super::put::put;
 use super::shape::child_states;
-use super::table::Table;
+use super::table_in_memory::Table;
 
 // So many cells of a kind, with the first child a.
 fn write_row(

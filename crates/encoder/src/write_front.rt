@@ -5,7 +5,7 @@ ghost use Rattle.encoder.specs.Encodings.{Wrote, table_blocks};
 
 use super::put::{put, put_word};
 use super::shape::{block_len, body_at};
-use super::table::Table;
+use super::table_in_memory::Table;
 
 const EDITION: u8 = 1;
 

@@ -15,7 +15,7 @@ use Rattle.ruling.proofs.Plugging.{agree_back, agree_on}
 use Rattle.ruling.proofs.Uniqueness.{one_table}
 use Rattle.ruling.proofs.TablesOf.{table_of_each}
 use Rattle.ruling.proofs.Needing.{one_need}
-use Rattle.encoder.specs.declared.table.Table.{Table}
+use Rattle.encoder.specs.declared.table_in_memory.Table.{Table}
 use Rattle.encoder.specs.declared.table_data.TableData.{TableData}
 use Rattle.encoder.specs.Tables.{cell_place, kinds_held, table_meaning, Clean}
 use Rattle.reduction.specs.Reductions.{Reduces, plainly, OneReduction}

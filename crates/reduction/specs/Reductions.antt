@@ -5,7 +5,7 @@ use Rattle.ruling.specs.declared.refusal.Refusal.TheVariants.{TooManyStates}
 use Rattle.ruling.specs.Meanings.{Meaning, accepts}
 use Rattle.ruling.specs.Sets.{Agree, Need}
 use Rattle.ruling.specs.WrittenTables.{TableOf}
-use Rattle.encoder.specs.declared.table.Table.{Table}
+use Rattle.encoder.specs.declared.table_in_memory.Table.{Table}
 use Rattle.encoder.specs.declared.table_data.TableData.{TableData}
 use Rattle.encoder.specs.Tables.{table_meaning, Clean}
 

@@ -10,7 +10,7 @@ use Rattle.ruling.specs.ReducedTables.{Reduced}
 use Rattle.ruling.specs.Sets.{Need}
 use Rattle.ruling.specs.WrittenTables.{TableOf}
 use Rattle.ruling.proofs.TablesOf.{table_of_each}
-use Rattle.encoder.specs.declared.table.Table.{Table}
+use Rattle.encoder.specs.declared.table_in_memory.Table.{Table}
 use Rattle.encoder.specs.declared.table_data.TableData.{TableData}
 use Rattle.encoder.specs.Tables.{kinds_held, table_meaning}
 use Rattle.reduction.specs.Reductions.{Reduces}

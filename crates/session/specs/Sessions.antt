@@ -73,22 +73,22 @@ answer_to None o = unasked o
 answer_to (Some f) o = asked (file_meaning f) o
 
 -- The file that is kept after a call.
-abbrev pub keptAfter : Option (List ℕ) → Order → Option (List ℕ)
-keptAfter kept (table f) = table_kept kept f (table_fault f)
-keptAfter kept (judge bytes room) = kept
-keptAfter kept (measure bytes room) = kept
-keptAfter kept states = kept
-keptAfter kept (rank k) = kept
-keptAfter kept (target k a b) = kept
-keptAfter kept (mark s) = kept
+abbrev pub kept_after : Option (List ℕ) → Order → Option (List ℕ)
+kept_after kept (table f) = table_kept kept f (table_fault f)
+kept_after kept (judge bytes room) = kept
+kept_after kept (measure bytes room) = kept
+kept_after kept states = kept
+kept_after kept (rank k) = kept
+kept_after kept (target k a b) = kept
+kept_after kept (mark s) = kept
 
 -- The answer to a line, and the file that is kept after it; a line that says nothing is not answered.
-abbrev pub lineAnswer : Option (List ℕ) → Said → Option Answer
-lineAnswer kept nothing = None
-lineAnswer kept no_call = Some NoCall
-lineAnswer kept (order o) = Some (answer_to kept o)
+abbrev pub line_answer : Option (List ℕ) → Said → Option Answer
+line_answer kept nothing = None
+line_answer kept no_call = Some NoCall
+line_answer kept (order o) = Some (answer_to kept o)
 
-abbrev pub lineKept : Option (List ℕ) → Said → Option (List ℕ)
-lineKept kept nothing = kept
-lineKept kept no_call = kept
-lineKept kept (order o) = keptAfter kept o
+abbrev pub line_kept : Option (List ℕ) → Said → Option (List ℕ)
+line_kept kept nothing = kept
+line_kept kept no_call = kept
+line_kept kept (order o) = kept_after kept o

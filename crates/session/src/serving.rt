@@ -1,7 +1,7 @@
 ghost use Rattle.std.specs.Prelude.{◌≡◌, is_ok, IfOk, if◌then◌else◌, None};
 ghost use Rattle.table.specs.TableFiles.{table_fault};
 ghost use Rattle.script.specs.Calls.{judge, measure, states, rank, target, mark, order_in, line_says};
-ghost use Rattle.session.specs.Sessions.{file_in, table_answer, table_kept, answer_to, keptAfter, lineAnswer, lineKept};
+ghost use Rattle.session.specs.Sessions.{file_in, table_answer, table_kept, answer_to, kept_after, line_answer, line_kept};
 
 use super::kept::KeptTable;
 use super::questions::{ask_judge, ask_mark, ask_measure, ask_rank, ask_target};
@@ -98,7 +98,7 @@ impl Session {
     // Makes a call. It fails only for want of memory, and then nothing changes.
     pub fn serve(&mut self, heap: Global, call: Call) -> Result<Answer, AllocError>
         ensures answer { IfOk result (λ a. a ≡ answer_to (file_in self.old) (order_in call)) }
-        ensures kept { file_in self.new ≡ (if is_ok result then keptAfter (file_in self.old) (order_in call) else file_in self.old) }
+        ensures kept { file_in self.new ≡ (if is_ok result then kept_after (file_in self.old) (order_in call) else file_in self.old) }
     {
         match call {
             Call::Table(bytes) => Ok(self.keep(bytes)),
@@ -113,8 +113,8 @@ impl Session {
 
     // Answers a line; nothing where it says nothing. It fails only for want of memory, and then nothing changes.
     pub fn respond(&mut self, heap: Global, line: &[u8]) -> Result<Option<Answer>, AllocError>
-        ensures answer { IfOk result (λ a. a ≡ lineAnswer (file_in self.old) (line_says line.now)) }
-        ensures kept { file_in self.new ≡ (if is_ok result then lineKept (file_in self.old) (line_says line.now) else file_in self.old) }
+        ensures answer { IfOk result (λ a. a ≡ line_answer (file_in self.old) (line_says line.now)) }
+        ensures kept { file_in self.new ≡ (if is_ok result then line_kept (file_in self.old) (line_says line.now) else file_in self.old) }
     {
         match read_line(heap, line)? {
             Line::Blank => Ok(None),

@@ -1,6 +1,6 @@
 use Rattle.std.proofs.Common.{ℕ, ◌<◌, ◌≤◌, cond, length, Some, None, sym, refl, ap, ◌∙◌, arith, le-ltb, lt-ltb}
 use Rattle.ruling.specs.declared.refusal.Refusal.TheVariants.{BufferTooShort}
-use Rattle.encoder.specs.declared.table.Table.{Table}
+use Rattle.encoder.specs.declared.table_in_memory.Table.{Table}
 use Rattle.encoder.specs.Tables.{table_meaning}
 use Rattle.encoder.specs.Encodings.{Tabled, table_bytes}
 use Rattle.encoder.proofs.Writing.{wrote_whole}

@@ -2,7 +2,7 @@ use Rattle.std.proofs.Common.{◌≡◌, length, refl, arith}
 use Rattle.ruling.specs.Written.{mark_byte, body_at}
 use Rattle.encoder.specs.Tables.{table_meaning}
 use Rattle.encoder.proofs.Writing.{wrote_more}
-use Rattle.encoder.proofs.Blocks.{row_length, blocks_length, directory_length}
+use Rattle.ruling.proofs.Rows.{row_length, blocks_length, directory_length}
 use Rattle.encoder.proofs.FileLayout.{blocks_of, file_length}
 use Rattle.encoder.proofs.encoding.write_table.Goals as goal
 

@@ -2,7 +2,8 @@ use Rattle.std.proofs.Common.{◌≡◌, ℕ, ◌+◌, ◌<◌, ◌≤◌, leb, 
 use Rattle.ruling.specs.Written.{row}
 use Rattle.encoder.specs.Tables.{table_meaning}
 use Rattle.encoder.proofs.Writing.{wrote_more, wrote_as}
-use Rattle.encoder.proofs.Blocks.{row_length, row_joined}
+use Rattle.ruling.proofs.Rows.{row_length}
+use Rattle.encoder.proofs.Blocks.{row_joined}
 use Rattle.encoder.proofs.Held.{span_few, block_rows, block_size, row_fits, row_after}
 use Rattle.encoder.proofs.write_blocks.write_block.Goals as goal
 

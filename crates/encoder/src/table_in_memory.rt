@@ -8,7 +8,7 @@ use super::table_data::TableData;
 // A table in memory: 1 to 16 kinds of rank 0 to 2, one of rank 0; 1 to 32 states; a target for every argument list.
 #[derive(Drop)]
 pub struct Table {
-    pub(super) inner: TableData,
+    pub inner: TableData,
     ghost some: { 0 < inner.count },
     ghost few: { inner.count ≤ 16 },
     ghost counted: { length (kinds_held inner) ≡ inner.count },
