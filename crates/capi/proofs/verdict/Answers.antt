@@ -10,7 +10,7 @@ pub returns : goal.returns
 returns c =
     let f = c.args.table.now in
     let bytes = c.args.bytes.now in
-    c.judge-bytes.ensures.answer
+    c.judge_bytes.ensures.answer
     ∙ (ap (λ (g : List ℕ). judged_bytes (file_meaning g) bytes 4096) c.make.ensures.kept.0
     ∙ (long_enough (file_meaning f) bytes
-    ∙ ap (λ o. unless o (accepted (file_meaning f) bytes)) (sym c.in-ok-states.ensures.answer.0)))
+    ∙ ap (λ o. unless o (accepted (file_meaning f) bytes)) (sym c.in_ok-states.ensures.answer.0)))

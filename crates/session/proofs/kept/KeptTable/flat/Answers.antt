@@ -8,5 +8,5 @@ pub make-requires : goal.make-requires
 make-requires c =
     let t = c.args.self.now in
     let f = vec_items t.bytes in
-    subst (λ (g : List ℕ). (table_fault g ≡ None) × (t.states ≡ (file_meaning g).states)) (sym c.as-slice.ensures.value)
+    subst (λ (g : List ℕ). (table_fault g ≡ None) × (t.states ≡ (file_meaning g).states)) (sym c.as_slice.ensures.value)
     (file_faultless f (faultless f t.sound), t.counted)
