@@ -69,7 +69,7 @@ impl Numbering {
     {
         for b in 0..seconds {
             let cell = self.cell(ruling, partition, kind, a, b);
-            cells[cell_place(kind, a, b)] = cell;
+            cells[cell_place(kind as usize, a as usize, b as usize)] = cell;
         }
     }
 

@@ -5,8 +5,8 @@ use Rattle.reduction.proofs.Bounds.{reached_below, place_of}
 use Rattle.reduction.proofs.Dividing.{keys_more}
 use Rattle.reduction.proofs.begin.read_marks.Goals as goal
 
-pub mark-of-requires : goal.mark-of-requires
-mark-of-requires g c = reached_below (g.R.Ruling.meaning c.args.ruling.now) _ (c.requires.reached c.loop-x.x (omega arith))
+pub mark_of-requires : goal.mark_of-requires
+mark_of-requires g c = reached_below (g.R.Ruling.meaning c.args.ruling.now) _ (c.requires.reached c.loop-x.x (omega arith))
 
 pub bounds-key-state : goal.bounds-key-state
 bounds-key-state g c = place_of (g.R.Ruling.meaning c.args.ruling.now) _ _ (c.loop-x.auto.key ∙ c.requires.key) (c.requires.reached c.loop-x.x (omega arith))
@@ -14,4 +14,4 @@ bounds-key-state g c = place_of (g.R.Ruling.meaning c.args.ruling.now) _ _ (c.lo
 pub loop-x-preserved : goal.loop-x-preserved
 loop-x-preserved g c = keys_more (mark_key (g.R.Ruling.meaning c.args.ruling.now).plain) c.args.live.now.states c.loop-x.x c.loop-x.key _
     (place_of (g.R.Ruling.meaning c.args.ruling.now) _ _ (c.loop-x.auto.key ∙ c.requires.key) (c.requires.reached c.loop-x.x (omega arith)))
-    (c.mark-key-mark.ensures ∙ ap mark_byte c.mark-of.ensures) c.loop-x.invariant
+    (c.mark_key-mark.ensures ∙ ap mark_byte c.mark_of.ensures) c.loop-x.invariant

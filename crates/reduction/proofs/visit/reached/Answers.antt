@@ -18,9 +18,9 @@ loop-i-preserved g c = (
   omega (arith, c.meet.ensures.onto.more.more),
 )
 
-pub returns-else-not-is-full : goal.returns-else-not-is-full
-returns-else-not-is-full g c = listing (g.R.Ruling.meaning c.args.ruling.now) _ _ _ c.requires c.loop-i.invariant.0
-    (λ more. absurd (omega (arith, more, eqb-true _ _ (sym c.if-not-is-full.ensures))))
+pub returns-else-not-is_full : goal.returns-else-not-is_full
+returns-else-not-is_full g c = listing (g.R.Ruling.meaning c.args.ruling.now) _ _ _ c.requires c.loop-i.invariant.0
+    (λ more. absurd (omega (arith, more, eqb-true _ _ (sym c.if-not-is_full.ensures))))
 
 pub returns-after-loop-i : goal.returns-after-loop-i
 returns-after-loop-i g c = listing (g.R.Ruling.meaning c.args.ruling.now) _ _ _ c.requires c.loop-i.invariant.0

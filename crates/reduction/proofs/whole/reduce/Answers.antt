@@ -11,7 +11,7 @@ use Rattle.reduction.proofs.whole.reduce.Goals as goal
 
 pub returns : goal.returns
 returns g c = record {
-  reduces = c.reduce-watched.ensures;
+  reduces = c.reduce_watched.ensures;
   one = one_reduction;
   plugging = plugging;
   reached = all_reached;
@@ -23,5 +23,5 @@ returns g c = record {
   settled = settled_same;
   «end» = approximations_end;
   classes = need_of_classes;
-  goal = one_need;
+  need = one_need;
 }

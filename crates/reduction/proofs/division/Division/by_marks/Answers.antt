@@ -9,7 +9,7 @@ split-requires g c =
     record {
       room = whole_room (g.R.Ruling.meaning c.args.ruling.now) _ _ _ _ _ list _ (c.requires.reached 0 c.requires.some) c.whole-partition.ensures;
       parts = c.whole-partition.ensures.parts;
-      key = c.read-marks.auto.key;
+      key = c.read_marks.auto.key;
     }
 
 pub refresh-requires : goal.refresh-requires
@@ -27,7 +27,7 @@ returns g c =
     let w = g.R.Ruling.meaning c.args.ruling.now in
     let list = listing_as w.plain _ _ _ _ c.all-live.ensures.0 c.all-live.ensures.1 c.requires in
     record {
-      classed = marks_classed w _ _ _ _ _ list _ (c.requires.reached 0 c.requires.some) c.whole-partition.ensures _ _ _ _ c.read-marks.ensures c.split.ensures.split c.split.ensures.level;
-      lives = fewer_lives _ _ _ _ _ _ (marks_lives w _ _ _ _ _ list _ (c.requires.reached 0 c.requires.some) c.whole-partition.ensures _ _ _ _ c.read-marks.ensures c.split.ensures.split)
+      classed = marks_classed w _ _ _ _ _ list _ (c.requires.reached 0 c.requires.some) c.whole-partition.ensures _ _ _ _ c.read_marks.ensures c.split.ensures.split c.split.ensures.level;
+      lives = fewer_lives _ _ _ _ _ _ (marks_lives w _ _ _ _ _ list _ (c.requires.reached 0 c.requires.some) c.whole-partition.ensures _ _ _ _ c.read_marks.ensures c.split.ensures.split)
           c.refresh.ensures;
     }

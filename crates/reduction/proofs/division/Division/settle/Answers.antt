@@ -4,17 +4,17 @@ use Rattle.reduction.proofs.division.Division.settle.Goals as goal
 
 pub loop-self-smaller : goal.loop-self-smaller
 loop-self-smaller g c = turn_less _ _ _ _ _ _ c.if-quiet-list.true (omega (arith, c.requires.listed.few, (g.R.Ruling.meaning c.args.ruling.now).few))
-    (few_classes (g.R.Ruling.meaning c.args.ruling.now) _ _ _ c.meet-brother-divided.ensures.sorted.classed)
-    c.meet-brother-divided.ensures.more (λ e. (c.meet-brother-divided.ensures.rest e).count) c.quiet-after-quiet.ensures
+    (few_classes (g.R.Ruling.meaning c.args.ruling.now) _ _ _ c.meet_brother-divided.ensures.sorted.classed)
+    c.meet_brother-divided.ensures.more (λ e. (c.meet_brother-divided.ensures.rest e).count) c.quiet_after-quiet.ensures
 
 pub loop-self-preserved : goal.loop-self-preserved
 loop-self-preserved g c = (
-  c.meet-brother-divided.ensures.sorted,
-  c.meet-brother-divided.ensures.even,
-  turn_rests _ _ _ _ _ _ _ _ _ _ _ _ c.loop-self.invariant.3 c.quiet-after-quiet.ensures c.next-in-circle-next.ensures
-      (λ e. let r = rests_at _ _ _ _ _ c.at.ensures (c.meet-brother-divided.ensures.rest e) in (r.same.0, r.same.1, r.rests)) c.loop-self.invariant.2,
-  turn_next _ _ _ c.loop-self.invariant.3 c.next-in-circle-next.ensures,
-  turn_quiet _ _ _ _ c.if-quiet-list.true c.quiet-after-quiet.ensures,
+  c.meet_brother-divided.ensures.sorted,
+  c.meet_brother-divided.ensures.even,
+  turn_rests _ _ _ _ _ _ _ _ _ _ _ _ c.loop-self.invariant.3 c.quiet_after-quiet.ensures c.next_in_circle-next.ensures
+      (λ e. let r = rests_at _ _ _ _ _ c.at.ensures (c.meet_brother-divided.ensures.rest e) in (r.same.0, r.same.1, r.rests)) c.loop-self.invariant.2,
+  turn_next _ _ _ c.loop-self.invariant.3 c.next_in_circle-next.ensures,
+  turn_quiet _ _ _ _ c.if-quiet-list.true c.quiet_after-quiet.ensures,
 )
 
 pub returns-else-quiet-list : goal.returns-else-quiet-list

@@ -8,7 +8,7 @@ pub split-requires : goal.split-requires
 split-requires g c = record {
   room = room_of (g.R.Ruling.meaning c.args.ruling.now) _ _ _ _ _ c.requires.sorted.lives c.requires.sorted.classed.led;
   parts = c.requires.sorted.classed.parts;
-  key = c.read-keys.auto.key ∙ omega arith;
+  key = c.read_keys.auto.key ∙ omega arith;
 }
 
 pub refresh-requires : goal.refresh-requires
@@ -23,7 +23,7 @@ returns-then-self-before g c =
     let m = (g.R.Ruling.meaning c.args.ruling.now).plain in
     let old = c.requires.sorted in
     let keys = keys_same m (class_key m c.args.self.now.partition.class c.args.kind c.args.place c.args.brother) _ _ _ _ old.lives
-    (class_key_same m _ _ _ _ old.classed.coarse c.requires.context) c.read-keys.ensures in
+    (class_key_same m _ _ _ _ old.classed.coarse c.requires.context) c.read_keys.ensures in
     record {
       sorted = record {
         classed = split_classed m _ _ _ _ _ _ _ _ _ old.lives old.classed.led old.classed.coarse keys c.split.ensures.split

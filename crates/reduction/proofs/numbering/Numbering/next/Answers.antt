@@ -2,8 +2,8 @@ use Rattle.std.proofs.Common.{sym, arith}
 use Rattle.reduction.proofs.Numbers.{before_row, before_block}
 use Rattle.reduction.proofs.numbering.Numbering.next.Goals as goal
 
-pub number-at-requires : goal.number-at-requires
-number-at-requires g c = record {
+pub number_at-requires : goal.number_at-requires
+number_at-requires g c = record {
   classes = c.requires.classes;
   numbered = c.requires.numbered;
   fits = c.spans-w.ensures.fits _ _ c.firsts-test.true c.seconds-test.true;

@@ -2,42 +2,27 @@ use Rattle.std.proofs.Common.{arith}
 use Rattle.reduction.proofs.TableMade.{whole_table, whole_clean, whole_counted, whole_ranks, whole_leaf, whole_complete, whole_some}
 use Rattle.reduction.proofs.numbering.Numbering.table.Goals as goal
 
-pub invariant-of-result : goal.invariant-of-result
-invariant-of-result g c =
+pub invariant_of-result : goal.invariant_of-result
+invariant_of-result g c =
     let w = g.R.Ruling.meaning c.args.ruling.now in
-    let t = c.table-data-inner.result in
-    let copy = c.table-data-inner.ensures in
-    let dv = c.requires.classes in (
-      omega (arith, copy.count, w.list.0),
-      (
-        omega (arith, copy.count, w.list.1),
-        (
-          whole_counted w _ _ dv.classes dv.few _ _ _ c.requires.numbered c.requires.closed t (omega arith) copy,
-          (
-            whole_ranks w _ _ dv.classes dv.few _ _ _ c.requires.numbered c.requires.closed t (omega arith) copy,
-            (
-              whole_leaf w _ _ dv.classes dv.few _ _ _ c.requires.numbered c.requires.closed t (omega arith) copy c.requires.leaf,
-              (
-                whole_some w _ _ dv.classes dv.few _ _ _ c.requires.numbered c.requires.closed t (omega arith) copy c.requires.leaf,
-                (
-                  omega (arith, copy.states, c.requires.numbered.small),
-                  (
-                    whole_complete w _ _ dv.classes dv.few _ _ _ c.requires.numbered c.requires.closed t (omega arith) copy,
-                    tt,
-                  ),
-                ),
-              ),
-            ),
-          ),
-        ),
-      ),
-    )
+    let t = c.table_data-inner.result in
+    let copy = c.table_data-inner.ensures in
+    let dv = c.requires.classes in record {
+      some = omega (arith, copy.count, w.list.0);
+      few = omega (arith, copy.count, w.list.1);
+      counted = whole_counted w _ _ dv.classes dv.few _ _ _ c.requires.numbered c.requires.closed t (omega arith) copy;
+      ranked = whole_ranks w _ _ dv.classes dv.few _ _ _ c.requires.numbered c.requires.closed t (omega arith) copy;
+      leaf = whole_leaf w _ _ dv.classes dv.few _ _ _ c.requires.numbered c.requires.closed t (omega arith) copy c.requires.leaf;
+      filled = whole_some w _ _ dv.classes dv.few _ _ _ c.requires.numbered c.requires.closed t (omega arith) copy c.requires.leaf;
+      limited = omega (arith, copy.states, c.requires.numbered.small);
+      complete = whole_complete w _ _ dv.classes dv.few _ _ _ c.requires.numbered c.requires.closed t (omega arith) copy;
+    }
 
 pub returns : goal.returns
 returns g c =
     let w = g.R.Ruling.meaning c.args.ruling.now in
-    let t = c.table-data-inner.result in
-    let copy = c.table-data-inner.ensures in
+    let t = c.table_data-inner.result in
+    let copy = c.table_data-inner.ensures in
     let dv = c.requires.classes in
     record {
       table = whole_table w _ _ dv.classes dv.few _ _ _ c.requires.numbered c.requires.closed t (omega arith) copy;

@@ -5,8 +5,8 @@ use Rattle.reduction.proofs.partition.Partition.divide.Goals as goal
 pub bounds-self-self : goal.bounds-self-self
 bounds-self-self c = one_more _ _ _ _ _ _ _ c.requires.room c.requires.parts c.requires.place c.requires.odd
 
-pub overflow-add-self : goal.overflow-add-self
-overflow-add-self c = omega (arith, one_more _ _ _ _ _ _ _ c.requires.room c.requires.parts c.requires.place c.requires.odd)
+pub overflow_add-self : goal.overflow_add-self
+overflow_add-self c = omega (arith, one_more _ _ _ _ _ _ _ c.requires.room c.requires.parts c.requires.place c.requires.odd)
 
 pub returns : goal.returns
 returns c = record {
