@@ -3,6 +3,8 @@
 
 mod no_road;
 #[cfg(test)]
+mod reductions;
+#[cfg(test)]
 mod tests;
 
 pub use no_road::NoRoad;

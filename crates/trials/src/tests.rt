@@ -6,7 +6,7 @@ use ruling::{Kinds, Layer, Refusal, check_opening, check_ranks};
 use std::test::Fail;
 
 // The number and the place of a refusal.
-fn refused<T: Drop>(answer: Result<T, Refusal>) -> Option<(u8, usize)> {
+pub(super) fn refused<T: Drop>(answer: Result<T, Refusal>) -> Option<(u8, usize)> {
     match answer {
         Ok(_) => None,
         Err(refusal) => {
@@ -59,7 +59,7 @@ fn places(rt: HostRuntime) -> Result<(), Fail> {
     };
     let path = inner.child(1, span);
     assert!(rt; path.place() == 3 && path.len() == 1);
-    assert_eq!(rt; path.bytes(), &[0]);
+    assert_eq!(rt; path.bytes(), [0].as_slice());
     Ok(())
 }
 
@@ -100,7 +100,7 @@ fn other_kinds(rt: HostRuntime) -> Result<(), Fail> {
 }
 
 // The table file of NoRoad.
-const NO_ROAD_FILE: &[u8; 34] =
+pub(super) const NO_ROAD_FILE: &[u8; 34] =
     b"\x01\x02\x04\x00\x00\x00\x01\x02\x01\x00\x1A\x00\x01\x00\x1B\x00\x01\x00\x1C\x00\x02\x00\x1E\x00\x04\x00\x00\x01\x00\x01\x00\x01\x01\x01";
 
 #[test]
