@@ -1,5 +1,5 @@
 -- A stack of 4,096 slots is long enough for every record that is read.
-use Rattle.std.proofs.Common.{◌≡◌, ℕ, cond, ltb, List, Ok, Err, Result, refl, ap, le-ltb}
+use Rattle.std.proofs.Common.{◌≡◌, ℕ, cond, List, Ok, Err, Result, refl, ap, le-ltb}
 use Rattle.ruling.specs.declared.refusal.Refusal.{Refusal}
 use Rattle.ruling.specs.declared.refusal.Refusal.TheVariants.{BufferTooShort}
 use Rattle.ruling.specs.Trees.{Tree, node_count}

@@ -1,4 +1,4 @@
-// The functions that a C program calls; include/rulebooks.h declares them.
+// What the functions answer that a C program calls. Crate `capi_c` exports them to C.
 #![tactic(auto)]
 
 ghost use Rattle.std.specs.Prelude.{◌≡◌};
@@ -30,8 +30,7 @@ fn code(verdict: Result<bool, Refusal>) -> i32
 
 // Whether the ruling of a table file accepts a record of up to 4,096 nodes: 1, 0, or minus the number of the refusal.
 // The table is checked first.
-#[unsafe(no_mangle)]
-pub extern "C" fn judge(table: &[u8], bytes: &[u8]) -> i32
+pub fn judge(table: &[u8], bytes: &[u8]) -> i32
     ensures { result ≡ code_of (file_verdict table.now bytes.now) }
 {
     code(verdict(table, bytes))

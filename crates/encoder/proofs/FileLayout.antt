@@ -1,21 +1,20 @@
 -- The parts of a table's file: their lengths, and what is read where.
-use Rattle.std.proofs.Common.{◌≡◌, ℕ, zero, suc, ◌+◌, ◌-◌, ◌*◌, ◌^◌, ◌<◌, ◌≤◌, Bool, true, false, cond, ◌&&◌, ◌||◌, eqb, ltb, leb, List, [], ◌∷◌, ◌++◌, length, get_or, take, is_some, sym, refl, ap, ◌∙◌, subst, ap₂, inl, add-one, arith, length-append, lt-ltb, eq-eqb, ne_eqb, le-leb}
+use Rattle.std.proofs.Common.{◌≡◌, ℕ, zero, suc, ◌+◌, ◌-◌, ◌*◌, ◌^◌, ◌<◌, ◌≤◌, Bool, true, false, cond, ◌&&◌, eqb, leb, List, [], ◌++◌, length, get_or, take, is_some, sym, refl, ap, ◌∙◌, subst, ap₂, inl, add-one, arith, length-append, lt-ltb, ne_eqb}
 use lib.Seq.{take-append_seam}
 use borrow.Author.Tests.{lt-leb}
 use Rattle.std.proofs.lemmas.List.{get_or_append_left, get_or-append-add, take_all}
 use Rattle.std.proofs.lemmas.Bool.{or_from}
-use Rattle.ruling.specs.Checks.{lowest}
 use Rattle.ruling.specs.KindLists.{Ranks, has_leaf}
 use Rattle.ruling.specs.Meanings.{Meaning, Fits}
 use Rattle.ruling.proofs.Lowest.{lowest_none}
 use Rattle.ruling.proofs.Rows.{row_length, row_at, blocks_length, blocks_at, directory_length, mark_told}
 use Rattle.ruling.specs.ReducedTables.{Equal}
-use Rattle.ruling.specs.Written.{row, joined, low_high, block, blocks, directory, mark_byte, body_at, file}
-use Rattle.table.specs.TableFiles.{byte_at, states_in, kind_count_in, ranks_in, rank_at, mark_place, pair_place, offset_at, length_at, cell_number, cell_at, TableFile, table_fault, missing_from, missing, led, file_meaning}
+use Rattle.ruling.specs.Written.{row, joined, blocks, directory, mark_byte, body_at, file}
+use Rattle.table.specs.TableFiles.{byte_at, ranks_in, rank_at, mark_place, pair_place, offset_at, length_at, cell_number, cell_at, TableFile, missing_from, missing, led, file_meaning}
 use Rattle.encoder.specs.Encodings.{Tabled, FilesRead}
 use Rattle.table.specs.Faults.{file_faultless}
 use Rattle.table.specs.FileRuled.{fits_kind, fits_below, cell_inside}
-use Rattle.encoder.proofs.Blocks.{block_length, block_at, block_below, joined_take, joined_within, joined_at, joined_few, past_four, pair_offset, pair_length}
+use Rattle.encoder.proofs.Blocks.{block_length, block_at, block_below, joined_take, joined_at, joined_few, past_four, pair_offset, pair_length}
 use Rattle.encoder.proofs.Held.{power_few}
 
 -- the blocks of a meaning, its marks and its directory

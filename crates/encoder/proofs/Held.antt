@@ -1,5 +1,5 @@
 -- The blocks of a table in memory.
-use Rattle.std.proofs.Common.{◌≡◌, ℕ, zero, suc, ◌+◌, ◌*◌, ◌^◌, ◌<◌, ◌≤◌, Bool, true, false, cond, leb, List, [], length, get_or, sym, refl, ap, ◌∙◌, ap₂, mul-le-mul_right, suc-mul, add-one, arith, get_or-take}
+use Rattle.std.proofs.Common.{◌≡◌, ℕ, zero, suc, ◌+◌, ◌*◌, ◌^◌, ◌<◌, ◌≤◌, Bool, true, false, cond, leb, [], length, get_or, sym, refl, ap, ◌∙◌, ap₂, mul-le-mul_right, suc-mul, add-one, arith, get_or-take}
 use Rattle.std.proofs.lemmas.Nat.{mul-le}
 use Rattle.ruling.specs.KindLists.{Ranks}
 use Rattle.ruling.specs.Written.{row, joined, block}

@@ -1,10 +1,10 @@
 -- The reckonings of states and sizes.
-use Rattle.std.proofs.Common.{◌≡◌, ℕ, ◌+◌, ◌<◌, ◌≤◌, max, true, false, cond, ◌&&◌, ltb, List, length, get_or, Some, None, unwrap_or, refl, ap, ◌∙◌, ap₂, arith}
+use Rattle.std.proofs.Common.{◌≡◌, ℕ, ◌+◌, ◌<◌, ◌≤◌, max, false, cond, Some, None, unwrap_or, refl, ap, ◌∙◌, ap₂, arith}
 use Rattle.std.proofs.lemmas.Bool.{lt-ltb}
 use Rattle.ruling.specs.Trees.{Tree, leaf, stem, fork, Over, node_count, height_of}
 use Rattle.ruling.specs.Meanings.{Fits, run, accepts}
 use Rattle.ruling.specs.Meanings.Fits.{none, one, two}
-use Rattle.ruling.specs.Questions.{fitting, marked}
+use Rattle.ruling.specs.Questions.{marked}
 use Rattle.ruling.specs.Rulings.{Ruled}
 use Rattle.ruling.proofs.ArgumentLists.{fits_told}
 use Rattle.judging.specs.Reckonings.{reckoned}

@@ -1,10 +1,10 @@
 -- The number of the parts that stand decides the fault of the next node.
-use Rattle.std.proofs.Common.{◌≡◌, ℕ, zero, suc, ◌+◌, ◌<◌, ◌≤◌, Bool, true, false, cond, ltb, leb, List, [], ◌∷◌, length, get_or, drop, Some, None, Ok, Err, sym, refl, ap, ◌∙◌, ap₂, arith, length-take, get_or-take, ltb-true, lt-ltb, leb-false, leb-true}
+use Rattle.std.proofs.Common.{◌≡◌, ℕ, zero, suc, ◌+◌, ◌<◌, ◌≤◌, Bool, true, false, cond, ltb, leb, List, [], ◌∷◌, length, get_or, drop, Some, None, Ok, Err, sym, refl, ap, ◌∙◌, arith, length-take, get_or-take, ltb-true, leb-false, leb-true}
 use native.Mathlib.Decide.{dec_lt}
 use Rattle.std.proofs.lemmas.List.{drop_more, drop_all, get_or_past}
 use Rattle.ruling.specs.declared.kinds.Kinds.{Kinds}
 use Rattle.ruling.specs.declared.refusal.Refusal.{Refusal}
-use Rattle.ruling.specs.declared.refusal.Refusal.TheVariants.{RecordLength, NoKind, TooFewParts, SeveralParts}
+use Rattle.ruling.specs.declared.refusal.Refusal.TheVariants.{NoKind, TooFewParts, SeveralParts}
 use Rattle.ruling.specs.Checks.{unless}
 use Rattle.ruling.specs.Trees.{Tree, leaf, stem, fork}
 use Rattle.ruling.specs.KindLists.{Ranks}

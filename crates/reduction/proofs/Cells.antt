@@ -1,18 +1,15 @@
 -- The cells and marks of a table, filled one after the other.
-use Rattle.std.proofs.Common.{◌≡◌, ℕ, ◌+◌, ◌*◌, ◌/◌, ◌%◌, ◌<◌, ◌≤◌, Bool, true, false, cond, ◌&&◌, ltb, ◌⊎◌, List, length, get_or, set, Some, None, Option, unwrap_or, sym, refl, ap, ◌∙◌, subst, ap₂, inl, inr, arith, get_or-set_other, get_or-set_same}
-use native.Mathlib.Decide.{ℕ_discrete, dec_lt}
-use Rattle.std.proofs.lemmas.Bool.{ltb-true}
-use Rattle.ruling.specs.Trees.{Kind}
-use Rattle.ruling.specs.Meanings.{Meaning, Fits, none, one, two}
+use Rattle.std.proofs.Common.{◌≡◌, ℕ, ◌+◌, ◌/◌, ◌%◌, ◌<◌, ◌≤◌, Bool, true, false, cond, ◌&&◌, ltb, ◌⊎◌, List, length, get_or, set, Some, None, Option, unwrap_or, sym, refl, ap, ◌∙◌, subst, ap₂, inl, inr, arith, get_or-set_other, get_or-set_same}
+use native.Mathlib.Decide.{ℕ_discrete}
+use Rattle.ruling.specs.Meanings.{Meaning, Fits}
 use Rattle.ruling.specs.Questions.{fitting, targeted, marked}
 use Rattle.ruling.specs.Rulings.{Ruled}
-use Rattle.ruling.specs.Classes.{Reached}
 use Rattle.encoder.specs.Tables.{cell_place}
 use Rattle.encoder.proofs.Copies.{fits_small}
-use Rattle.reduction.specs.Numbering.{Spans, AllBefore, Numbered, aimed, number_of, numbered_meaning}
+use Rattle.reduction.specs.Numbering.{Spans, aimed, number_of, numbered_meaning}
 use Rattle.reduction.specs.Filling.{cell_at, CellFilled, Filling, AllFilled, MarksFilled}
 use Rattle.ruling.proofs.ArgumentLists.{fits_kind, told_fits, fits_targeted, state_marked}
-use Rattle.reduction.proofs.Numbers.{before_cell, before_row, before_block, before_all}
+use Rattle.reduction.proofs.Numbers.{before_cell, before_row, before_block}
 
 -- The kind and the children of a place.
 pub place_parts : (c : Meaning) (k a b : ℕ) → a < 32 → b < 32 → cell_at c (cell_place k a b) ≡ unwrap_or (targeted c k a b) 0

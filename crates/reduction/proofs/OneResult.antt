@@ -1,14 +1,12 @@
 -- Rulings with the same kinds and the same set have one reduction.
-use Rattle.std.proofs.Common.{◌≡◌, ℕ, ◌/◌, ◌%◌, ◌<◌, ◌≤◌, Bool, true, false, cond, ◌&&◌, ltb, List, length, get_or, Some, None, Ok, Err, Result, unwrap_or, sym, refl, ap, ◌∙◌, subst, ap₂, arith}
+use Rattle.std.proofs.Common.{◌≡◌, ℕ, ◌/◌, ◌%◌, ◌<◌, Bool, false, List, length, get_or, Ok, Err, unwrap_or, sym, ap, ◌∙◌, subst, arith}
 use Rattle.std.proofs.lemmas.List.{ext_get_or}
-use Rattle.std.proofs.lemmas.Bool.{ltb-true}
-use Rattle.ruling.specs.declared.refusal.Refusal.{Refusal}
 use Rattle.ruling.specs.declared.refusal.Refusal.TheVariants.{TooManyStates}
 use Rattle.ruling.specs.Trees.{Over}
 use Rattle.ruling.specs.Meanings.{Meaning, Complete, accepts}
-use Rattle.ruling.specs.Questions.{rank_in, fitting, targeted, marked}
+use Rattle.ruling.specs.Questions.{rank_in}
 use Rattle.ruling.specs.Sets.{Agree, Rules, Need}
-use Rattle.ruling.specs.ReducedTables.{Equal, Reduced}
+use Rattle.ruling.specs.ReducedTables.{Equal}
 use Rattle.ruling.specs.WrittenTables.{TableOf}
 use Rattle.ruling.proofs.ArgumentLists.{equal_marked, equal_targeted}
 use Rattle.ruling.proofs.Plugging.{agree_back, agree_on}
@@ -17,8 +15,8 @@ use Rattle.ruling.proofs.TablesOf.{table_of_each}
 use Rattle.ruling.proofs.Needing.{one_need}
 use Rattle.encoder.specs.declared.table_in_memory.Table.{Table}
 use Rattle.encoder.specs.declared.table_data.TableData.{TableData}
-use Rattle.encoder.specs.Tables.{cell_place, kinds_held, table_meaning, Clean}
-use Rattle.reduction.specs.Reductions.{Reduces, plainly, OneReduction}
+use Rattle.encoder.specs.Tables.{cell_place, table_meaning, Clean}
+use Rattle.reduction.specs.Reductions.{OneReduction}
 
 -- What rules a set for one ruling rules it for the other.
 rules_agree : (m n d : Meaning) → Agree m n → Rules m.kinds (accepts m) d → Rules n.kinds (accepts n) d

@@ -1,19 +1,11 @@
 -- The table made of the numbered classes is the table of the ruling.
-use Rattle.std.proofs.Common.{◌≡◌, ℕ, ◌+◌, ◌*◌, ◌<◌, ◌≤◌, Bool, true, false, cond, ◌&&◌, ltb, ◌⊎◌, List, length, get_or, take, Some, None, Option, unwrap_or, sym, refl, ap, ◌∙◌, subst, ap₂, inl, inr, arith}
-use native.Mathlib.Decide.{ℕ_discrete, dec_lt}
-use Rattle.std.proofs.lemmas.List.{get_or_past}
-use Rattle.std.proofs.lemmas.Bool.{ltb-false}
-use Rattle.ruling.specs.Trees.{Kind}
+use Rattle.std.proofs.Common.{◌≡◌, ℕ, ◌<◌, ◌≤◌, true, ◌⊎◌, List, length, get_or, Some, None, Option, unwrap_or, sym, refl, ap, ◌∙◌, subst, inl, inr, arith}
 use Rattle.ruling.specs.Meanings.{Meaning, Fits, none, one, two, Complete}
-use Rattle.ruling.specs.Questions.{rank_in, fitting, targeted, marked}
 use Rattle.ruling.specs.KindLists.{Ranks, has_leaf}
 use Rattle.ruling.specs.Rulings.{Ruled}
-use Rattle.ruling.specs.Classes.{Reached, Same, Classes}
-use Rattle.ruling.specs.Sets.{Agree}
+use Rattle.ruling.specs.Classes.{Same, Classes}
 use Rattle.ruling.specs.ReducedTables.{Next, Reduced}
 use Rattle.ruling.specs.WrittenTables.{TableOf}
-use Rattle.ruling.proofs.Lists.{front}
-use Rattle.ruling.proofs.ArgumentLists.{fits_kind, fits_targeted, state_marked}
 use Rattle.ruling.proofs.Folding.{Folds, fold_agrees, fold_reduced}
 use Rattle.ruling.proofs.TablesOf.{table_of_each}
 use Rattle.encoder.specs.declared.table_data.TableData.{TableData}

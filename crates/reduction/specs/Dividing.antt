@@ -1,5 +1,5 @@
 -- Classes of the reached states while they are divided.
-use Rattle.std.specs.Prelude.{◌≡◌, ℕ, ◌+◌, ◌<◌, ◌≤◌, Bool, true, false, cond, ◌&&◌, ◌⊎◌, List, length, get_or, ◌==◌, slice_index, slice_index_or}
+use Rattle.std.specs.Prelude.{◌≡◌, ℕ, ◌+◌, ◌<◌, ◌≤◌, Bool, true, false, cond, ◌&&◌, ◌⊎◌, List, get_or, ◌==◌, slice_index, slice_index_or}
 use Rattle.ruling.specs.Trees.{Kind}
 use Rattle.ruling.specs.Meanings.{Meaning}
 use Rattle.ruling.specs.Classes.{Reached, Same}

@@ -1,5 +1,5 @@
 -- The same of values of Partition and Numbering.
-use Rattle.std.specs.Prelude.{ℕ, ◌≤◌, List, None, Option, slice_index}
+use Rattle.std.specs.Prelude.{◌≤◌, None, slice_index}
 use Rattle.ruling.specs.Meanings.{Meaning}
 use Rattle.ruling.specs.Classes.{Classes}
 use Rattle.reduction.specs.declared.partition.Partition.{Partition}

@@ -1,5 +1,5 @@
 -- The same of a value of Search.
-use Rattle.std.specs.Prelude.{ℕ, ◌<◌}
+use Rattle.std.specs.Prelude.{◌<◌}
 use Rattle.ruling.specs.Meanings.{Meaning}
 use Rattle.reduction.specs.declared.found.Search.{Search}
 use Rattle.reduction.specs.Searching.{Found, Grown, Listing}

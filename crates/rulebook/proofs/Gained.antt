@@ -1,16 +1,12 @@
 -- What the parts of a load give, as the promise has it.
-use Rattle.std.proofs.Common.{◌≡◌, ℕ, ◌<◌, ◌≤◌, List, Some, None, Ok, Err, Result, sym, refl, ap, ◌∙◌, subst}
+use Rattle.std.proofs.Common.{◌≡◌, ℕ, ◌≤◌, List, Some, None, Ok, Err, sym, ◌∙◌, subst}
 use Rattle.ruling.specs.declared.refusal.Refusal.{Refusal}
-use Rattle.ruling.specs.declared.refusal.Refusal.TheVariants.{TooManyStates}
-use Rattle.ruling.specs.Refusals.{told}
-use Rattle.ruling.specs.Meanings.{Meaning, accepts}
+use Rattle.ruling.specs.Meanings.{Meaning}
 use Rattle.ruling.specs.Rulings.{Ruled}
 use Rattle.ruling.specs.KindLists.{kinds_fault}
 use Rattle.ruling.specs.ReducedTables.{Reduced}
-use Rattle.ruling.specs.Sets.{Need}
 use Rattle.ruling.specs.WrittenTables.{TableOf}
 use Rattle.ruling.proofs.TablesOf.{table_of_each}
-use Rattle.encoder.specs.declared.table_in_memory.Table.{Table}
 use Rattle.encoder.specs.declared.table_data.TableData.{TableData}
 use Rattle.encoder.specs.Tables.{kinds_held, table_meaning}
 use Rattle.reduction.specs.Reductions.{Reduces}

@@ -1,5 +1,5 @@
 -- The table with one state, marked no, is the table of the empty set.
-use Rattle.std.proofs.Common.{◌≡◌, ℕ, zero, suc, ◌<◌, Bool, true, false, cond, ◌&&◌, eqb, ltb, leb, List, length, get_or, is_some, Some, None, Option, unwrap_or, sym, refl, ap, ◌∙◌, subst, arith, ltb-true, eq-eqb, eqb-true, leb-true}
+use Rattle.std.proofs.Common.{◌≡◌, ℕ, zero, suc, ◌<◌, Bool, true, false, cond, ◌&&◌, eqb, ltb, leb, List, length, get_or, is_some, Some, None, Option, unwrap_or, refl, subst, arith, ltb-true, eq-eqb, eqb-true, leb-true}
 use Rattle.std.proofs.lemmas.Bool.{and_parts}
 use Rattle.ruling.specs.Trees.{Kind}
 use Rattle.ruling.specs.Meanings.{Meaning, Fits, none, one, two, Complete, run}

@@ -1,5 +1,5 @@
 -- The rules fix the answers and the set.
-use Rattle.std.proofs.Common.{◌≡◌, ℕ, ◌<◌, ◌≤◌, Bool, true, false, cond, leb, ◌↔◌, List, ◌∷◌, length, Some, None, Ok, Err, Option, sym, refl, ap, ◌∙◌, subst, ap₂, arith, leb-false, leb-true}
+use Rattle.std.proofs.Common.{◌≡◌, ℕ, ◌<◌, Bool, true, false, cond, leb, ◌↔◌, List, ◌∷◌, length, Some, None, Ok, Err, Option, sym, refl, ap, ◌∙◌, subst, ap₂, arith, leb-false, leb-true}
 use Rattle.ruling.specs.declared.refusal.Refusal.{Refusal}
 use Rattle.ruling.specs.declared.refusal.Refusal.TheVariants.{TooManyStates}
 use Rattle.ruling.specs.declared.refusal.Notice.{Notice}
@@ -11,11 +11,10 @@ use Rattle.ruling.specs.Checks.{first}
 use Rattle.ruling.specs.KindLists.{kinds_fault}
 use Rattle.ruling.specs.Sets.{Set, Rules, Need}
 use Rattle.ruling.specs.ReducedTables.{Equal}
-use Rattle.ruling.specs.Written.{file}
 use Rattle.ruling.proofs.ArgumentLists.{equal_marked, equal_targeted}
 use Rattle.ruling.proofs.Files.{same_file}
 use Rattle.ruling.proofs.Needing.{one_need}
-use Rattle.rulebook.specs.Calls.{Change, Question, judge, write, states, rank, target, mark, change, ask, Made, Answer, count, verdict, wrote, found, marked, refused, changed}
+use Rattle.rulebook.specs.Calls.{Change, Question, judge, write, states, rank, target, mark, change, ask, Answer, count, verdict, wrote, found, marked, refused, changed}
 use Rattle.rulebook.specs.Outcomes.{room_fault, unless_fault, early_fault, reply, Stays, Changes, Checked, Outcome}
 use Rattle.rulebook.specs.Histories.{History, opened, called, kinds_of, calls_of, Reckons, Twelves}
 use Rattle.rulebook.specs.Laws.{OneOutcome, OneReckoning}

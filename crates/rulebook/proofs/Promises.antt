@@ -1,11 +1,9 @@
 -- Two rulebooks, and that every rulebook has a history.
-use Rattle.std.proofs.Common.{◌≡◌, ℕ, ◌<◌, ◌≤◌, true, false, List, Ok, sym, refl, ap, ◌∙◌, subst, arith}
+use Rattle.std.proofs.Common.{◌≡◌, ℕ, true, false, Ok, sym, refl, ap, ◌∙◌, subst, arith}
 use Rattle.ruling.specs.Trees.{Over}
 use Rattle.ruling.specs.Meanings.{Meaning, Fits, none, one, two, Complete}
-use Rattle.ruling.specs.Rulings.{Ruled}
 use Rattle.ruling.specs.KindLists.{has_leaf}
 use Rattle.ruling.specs.Sets.{Rules, empty}
-use Rattle.ruling.specs.ReducedTables.{Reduced}
 use Rattle.ruling.specs.Written.{file}
 use Rattle.ruling.specs.WrittenTables.{WrittenTable}
 use Rattle.std.specs.Option.{option_map}
@@ -16,7 +14,7 @@ use Rattle.ruling.proofs.Uniqueness.{equal_agree}
 use Rattle.ruling.proofs.TablesOf.{one_written}
 use Rattle.rulebook.specs.Calls.{load, change, count}
 use Rattle.rulebook.specs.Outcomes.{TableFor}
-use Rattle.rulebook.specs.Histories.{History, opened, called, kinds_of, Stands}
+use Rattle.rulebook.specs.Histories.{opened, called, kinds_of, Stands}
 use Rattle.rulebook.specs.Laws.{SameWritten, SomeCalls}
 use Rattle.rulebook.proofs.Stepping.{standing}
 use Rattle.rulebook.proofs.Loading.{load_done}

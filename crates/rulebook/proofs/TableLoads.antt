@@ -1,13 +1,12 @@
 -- Loading table bytes: the call that the bytes make.
-use Rattle.std.proofs.Common.{◌≡◌, ℕ, true, false, List, is_some, Some, None, Ok, Err, Option, Result, sym, refl, ap, ◌∙◌, subst, true≢false, arith}
+use Rattle.std.proofs.Common.{◌≡◌, ℕ, true, false, List, is_some, Some, None, Ok, Err, Option, sym, ap, ◌∙◌, subst, true≢false, arith}
 use Rattle.ruling.specs.declared.refusal.Refusal.{Refusal}
 use Rattle.ruling.specs.Refusals.{told}
 use Rattle.ruling.specs.Meanings.{Meaning}
 use Rattle.ruling.specs.Rulings.{Ruled}
 use Rattle.table.specs.TableFiles.{table_fault, file_meaning}
 use Rattle.rulebook.specs.Calls.{load, turn, change, ask, Made, Answer, refused}
-use Rattle.rulebook.specs.Outcomes.{Outcome}
-use Rattle.rulebook.specs.Histories.{History, called, Stands, Follows}
+use Rattle.rulebook.specs.Histories.{called, Stands, Follows}
 use Rattle.rulebook.specs.declared.rulebook.Rulebook.{Rulebook}
 use Rattle.rulebook.specs.Changes.{meaning_of, LoadOf}
 use Rattle.rulebook.proofs.Props.{ruled_same}

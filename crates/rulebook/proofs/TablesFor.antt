@@ -1,6 +1,6 @@
 -- The table of a set: its need, that there is one, and that it is the table of every ruling of the set.
-use Rattle.std.proofs.Common.{◌≡◌, ℕ, ◌≤◌, List, sym, refl, ◌∙◌, subst}
-use Rattle.ruling.specs.Trees.{Tree, Over}
+use Rattle.std.proofs.Common.{ℕ, ◌≤◌, List, sym, refl, ◌∙◌, subst}
+use Rattle.ruling.specs.Trees.{Over}
 use Rattle.ruling.specs.Meanings.{Meaning, accepts}
 use Rattle.ruling.specs.Sets.{Set, Rules, Need, Agree}
 use Rattle.ruling.specs.ReducedTables.{Reduced, Equal}

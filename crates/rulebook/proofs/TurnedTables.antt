@@ -1,10 +1,9 @@
 -- A reduced table with yes and no exchanged is the reduced table of all other records.
-use Rattle.std.proofs.Common.{◌≡◌, ℕ, ◌<◌, ◌≤◌, Bool, true, false, cond, not, ◌&&◌, ltb, List, length, get_or, Some, None, Ok, unwrap_or, sym, refl, ap, ◌∙◌, subst, ap₂, arith, lt-ltb}
+use Rattle.std.proofs.Common.{◌≡◌, ℕ, ◌<◌, ◌≤◌, Bool, true, false, cond, not, ◌&&◌, ltb, List, length, get_or, Some, None, Ok, unwrap_or, sym, refl, ap, ◌∙◌, ap₂, arith, lt-ltb}
 use mathlib.Core.Logic.{∥∥₁_elim, ∥∥₁_prop}
-use Rattle.ruling.specs.Trees.{Tree, leaf, stem, fork, Over}
+use Rattle.ruling.specs.Trees.{Tree, leaf, stem, fork}
 use Rattle.ruling.specs.Surroundings.{Surrounding, gap, under, left, right, SurroundingOver, around}
-use Rattle.ruling.specs.Meanings.{Meaning, Fits, none, one, two, Complete, run, accepts}
-use Rattle.ruling.specs.Classes.{Same}
+use Rattle.ruling.specs.Meanings.{Meaning, one, two, run}
 use Rattle.ruling.specs.ReducedTables.{Reduced}
 use Rattle.ruling.proofs.Smallest.{run_below}
 use Rattle.ruling.specs.Sets.{Set, Rules, others}

@@ -1,5 +1,5 @@
 -- The calls of a rulebook, what they are given, and what they answer.
-use Rattle.std.specs.Prelude.{ℕ, Bool, not, List, Some, None, Ok, Err, Option, Result}
+use Rattle.std.specs.Prelude.{ℕ, Bool, List, Some, None, Ok, Err, Option, Result}
 use Rattle.ruling.specs.declared.refusal.Refusal.{Refusal}
 use Rattle.ruling.specs.declared.refusal.Notice.{Notice}
 use Rattle.ruling.specs.Refusals.{told}

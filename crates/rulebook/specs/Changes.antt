@@ -6,7 +6,7 @@ use Rattle.ruling.specs.Meanings.{Meaning}
 use Rattle.encoder.specs.Tables.{table_meaning}
 use Rattle.table.specs.TableFiles.{table_fault, file_meaning}
 use Rattle.rulebook.specs.declared.rulebook.Rulebook.{Rulebook}
-use Rattle.rulebook.specs.Calls.{Change, load, turn, change, ask, Made, Answer, count, refused}
+use Rattle.rulebook.specs.Calls.{Change, load, turn, change, ask, Made, count, refused}
 use Rattle.rulebook.specs.Histories.{Follows}
 
 -- What a rulebook means.

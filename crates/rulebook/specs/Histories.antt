@@ -1,8 +1,6 @@
 -- The calls of a rulebook since it was opened, the set that the rules reckon from them, and what is promised of the rulebook.
 use Rattle.std.specs.Prelude.{◌≡◌, ℕ, ◌<◌, ◌≤◌, ◌↔◌, List, [], ◌∷◌, None, Ok, Err}
 use Rattle.ruling.specs.declared.refusal.Notice.{Notice}
-use Rattle.ruling.specs.declared.refusal.Refusal.TheVariants.{TooManyStates}
-use Rattle.ruling.specs.Refusals.{told}
 use Rattle.ruling.specs.Meanings.{Meaning}
 use Rattle.ruling.specs.Sets.{Set, empty, Rules, Need}
 use Rattle.ruling.specs.Written.{file}

@@ -1,5 +1,5 @@
 -- What is proved of these definitions alone.
-use Rattle.std.specs.Prelude.{◌≡◌, ℕ, ◌<◌, ◌≤◌, ◌↔◌, List}
+use Rattle.std.specs.Prelude.{◌≡◌, ℕ, ◌≤◌, ◌↔◌, List}
 use Rattle.ruling.specs.Trees.{Tree, Over}
 use Rattle.ruling.specs.Meanings.{accepts}
 use Rattle.ruling.specs.Rulings.{Ruled}

@@ -1,5 +1,5 @@
 -- What the rules reckon for one call: the answer, and the set afterwards.
-use Rattle.std.specs.Prelude.{◌≡◌, ℕ, ◌*◌, ◌<◌, cond, List, length, Some, None, Ok, Err, Option, nat_le, nat_lt}
+use Rattle.std.specs.Prelude.{◌≡◌, ℕ, ◌*◌, cond, List, length, Some, None, Ok, Err, Option, nat_le, nat_lt}
 use Rattle.ruling.specs.declared.refusal.Refusal.{Refusal}
 use Rattle.ruling.specs.declared.refusal.Refusal.TheVariants.{TooManyStates, BufferTooShort, PairTooLarge}
 use Rattle.ruling.specs.Refusals.{told}

@@ -1,5 +1,5 @@
 -- What a ruling means, with the proof that it is well formed.
-use Rattle.std.specs.Prelude.{ℕ, ◌<◌, ◌≤◌}
+use Rattle.std.specs.Prelude.{◌<◌, ◌≤◌}
 use Rattle.ruling.specs.Meanings.{Meaning, Complete}
 use Rattle.ruling.specs.KindLists.{KindList}
 

@@ -4,7 +4,7 @@ use Rattle.ruling.specs.Trees.{Tree, Over}
 use Rattle.ruling.specs.Meanings.{Meaning, Complete, run, accepts}
 use Rattle.ruling.specs.Surroundings.{Surrounding, plug, around}
 use Rattle.ruling.specs.Classes.{Reached, Same, Divides, Classes}
-use Rattle.ruling.specs.Sets.{Set, Rules, Agree, Need}
+use Rattle.ruling.specs.Sets.{Set, Agree, Need}
 use Rattle.ruling.specs.ReducedTables.{Reduced, Equal}
 use Rattle.ruling.specs.Written.{file}
 use Rattle.ruling.specs.WrittenTables.{TableOf, WrittenTable}

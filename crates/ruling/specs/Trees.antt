@@ -1,5 +1,5 @@
 -- Records as trees, and the bytes that a record is written in.
-use Rattle.std.specs.Prelude.{◌≡◌, ℕ, suc, ◌+◌, ◌<◌, max, List, [], ◌∷◌, ◌++◌, length, slice_index}
+use Rattle.std.specs.Prelude.{◌≡◌, ℕ, ◌+◌, ◌<◌, max, List, [], ◌∷◌, ◌++◌, length, slice_index}
 
 -- A record: each node has a kind, given by its number, and none, one or two children; of two, the left one is first.
 pub data Tree : Type 0 where

@@ -1,5 +1,5 @@
 -- What a line of a script says.
-use Rattle.std.specs.Prelude.{ℕ, Bool, cond, List, [], ◌∷◌, Some, None, vec_items, codes, Option}
+use Rattle.std.specs.Prelude.{ℕ, cond, List, [], ◌∷◌, Some, None, vec_items, codes, Option}
 use Rattle.std.specs.Option.{option_map}
 use Rattle.script.specs.declared.call.Verb.{Verb}
 use Rattle.script.specs.declared.call.Verb.TheVariants.{Table, Judge, Measure, States, Rank, Target, Mark}

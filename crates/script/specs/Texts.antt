@@ -1,5 +1,5 @@
 -- How an answer is written.
-use Rattle.std.specs.Prelude.{ℕ, Bool, true, false, List, [], ◌∷◌, ◌++◌, codes, decimal}
+use Rattle.std.specs.Prelude.{ℕ, Bool, true, false, List, ◌++◌, codes, decimal}
 use Rattle.ruling.specs.declared.layer.Layer.{Layer}
 use Rattle.ruling.specs.declared.layer.Layer.TheVariants.{Kinds, Table, Ruling, Record, Book, Buffer}
 use Rattle.ruling.specs.declared.refusal.Notice.{Notice}

@@ -1,5 +1,5 @@
 -- Reading the parts of a file whose head is right.
-use Rattle.std.proofs.Common.{◌≡◌, ℕ, zero, suc, ◌+◌, ◌-◌, ◌<◌, ◌≤◌, true, false, cond, ◌||◌, eqb, List, length, drop, is_some, Some, None, Option, sym, refl, ap, ◌∙◌, ap₂, add-one, arith, get_or-drop, get_or-take, le-ltb}
+use Rattle.std.proofs.Common.{◌≡◌, ℕ, suc, ◌+◌, ◌-◌, ◌<◌, ◌≤◌, true, false, cond, ◌||◌, eqb, List, length, drop, is_some, Some, None, Option, sym, ap, ◌∙◌, add-one, arith, get_or-drop, get_or-take, le-ltb}
 use Rattle.std.specs.Option.{option_map}
 use Rattle.ruling.specs.declared.refusal.Refusal.{Refusal}
 use Rattle.ruling.specs.declared.refusal.Refusal.TheVariants.{TableDirectory, TableByte}

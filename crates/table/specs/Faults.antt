@@ -1,18 +1,17 @@
 -- A file has no fault exactly where it is a table file.
 use Rattle.std.specs.Prelude.{◌≡◌, ℕ, zero, suc, ◌+◌, ◌-◌, ◌^◌, ◌<◌, ◌≤◌, Bool, true, false, cond, not, ◌&&◌, ltb, ◌⊎◌, List, length, Some, None, Option, ◌==◌, nat_le, nat_lt, refl}
-use Rattle.std.proofs.Common.{sym, ◌∙◌, ap, ap₂, subst, inl, inr, arith, ltb-true, ltb-false, leb-true, leb-false, eqb-true, lt-ltb, le-ltb, le-leb, eq-eqb, ne_eqb}
+use Rattle.std.proofs.Common.{◌∙◌, ap, ap₂, subst, inl, inr, arith, ltb-false, leb-true, leb-false, eqb-true, le-ltb, le-leb, eq-eqb}
 use Rattle.std.proofs.Math.Decide.{ℕ_discrete}
 use Rattle.std.specs.Option.{option_map}
 use Rattle.std.proofs.lemmas.Bool.{and_parts, not-false, lt-leb}
-use Rattle.ruling.specs.declared.refusal.Refusal.{Refusal}
-use Rattle.ruling.specs.declared.refusal.Refusal.TheVariants.{TableHead, TableDirectory, TableByte, NoLeafKind}
+use Rattle.ruling.specs.declared.refusal.Refusal.TheVariants.{TableByte, NoLeafKind}
 use Rattle.ruling.specs.Checks.{lowest, first}
 use Rattle.ruling.specs.KindLists.{has_leaf, rank_fault, leaf_fault}
 use Rattle.ruling.specs.Written.{body_at}
 use Rattle.ruling.proofs.Lowest.{lowest_none, none_lowest}
 use Rattle.ruling.proofs.Lists.{none_above, small_ranks}
-use Rattle.table.specs.TableFiles.{byte_at, states_in, kind_count_in, ranks_in, rank_at, mark_place, pair_place, offset_at, length_at, TableFile, head_fault, mark_fault, pair_fault, pairs_fault, directory_fault, wrong_cell, cells_fault, table_fault}
-use Rattle.table.specs.FileParts.{Headed, BlocksInside, FaultsTold}
+use Rattle.table.specs.TableFiles.{byte_at, states_in, kind_count_in, ranks_in, rank_at, mark_place, offset_at, length_at, TableFile, head_fault, mark_fault, pair_fault, pairs_fault, directory_fault, wrong_cell, cells_fault, table_fault}
+use Rattle.table.specs.FileParts.{BlocksInside, FaultsTold}
 
 pub first_none : {A : Type 0} (o p : Option A) → first o p ≡ None → (o ≡ None) × (p ≡ None)
 first_none None p e = (refl, e)

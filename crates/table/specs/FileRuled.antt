@@ -1,6 +1,6 @@
 -- What a table file means is well formed.
-use Rattle.std.specs.Prelude.{◌≡◌, ℕ, zero, suc, ◌+◌, ◌*◌, ◌^◌, ◌<◌, ◌≤◌, Bool, true, false, cond, not, ◌&&◌, ◌||◌, ◌⊎◌, List, length, is_some, Some, None, Option, ◌==◌, nat_eq, nat_le, refl}
-use Rattle.std.proofs.Common.{sym, ◌∙◌, ap, ap₂, subst, inl, inr, pow-suc, one-mul, arith, length-take, length-drop, leb-false, eqb-true, eq-eqb}
+use Rattle.std.specs.Prelude.{◌≡◌, ℕ, zero, suc, ◌+◌, ◌*◌, ◌^◌, ◌<◌, ◌≤◌, Bool, true, false, cond, ◌||◌, ◌⊎◌, List, length, is_some, Some, None, Option, ◌==◌, nat_eq, nat_le, refl}
+use Rattle.std.proofs.Common.{sym, ◌∙◌, ap, subst, inl, inr, pow-suc, one-mul, arith, length-take, length-drop, leb-false, eq-eqb}
 use Rattle.std.proofs.Math.Decide.{ℕ_discrete}
 use Rattle.std.proofs.Math.Nat.{pow-zero}
 use Rattle.std.proofs.lemmas.Nat.{mul-add-lt}
@@ -9,7 +9,7 @@ use Rattle.ruling.specs.Checks.{lowest}
 use Rattle.ruling.specs.KindLists.{KindList}
 use Rattle.ruling.specs.Meanings.{Fits, none, one, two, Complete}
 use Rattle.ruling.proofs.Lowest.{none_lowest}
-use Rattle.table.specs.TableFiles.{byte_at, states_in, kind_count_in, ranks_in, rank_at, offset_at, length_at, cell_number, cell_at, TableFile, table_fault, missing_from, missing, dead_in, led, file_meaning}
+use Rattle.table.specs.TableFiles.{byte_at, states_in, kind_count_in, ranks_in, rank_at, offset_at, length_at, cell_number, cell_at, TableFile, table_fault, missing_from, missing, led, file_meaning}
 use Rattle.table.specs.FileParts.{Headed}
 use Rattle.table.specs.Faults.{faultless_file, file_inside}
 

@@ -1,5 +1,5 @@
 -- The table file, byte by byte: what its parts are, when bytes are a table file, and its first fault.
-use Rattle.std.specs.Prelude.{◌≡◌, ℕ, zero, suc, ◌+◌, ◌*◌, ◌^◌, ◌<◌, ◌≤◌, Bool, true, false, cond, not, ◌&&◌, ◌||◌, ltb, ◌⊎◌, List, [], ◌∷◌, length, take, drop, is_some, Some, None, Option, ◌==◌, nat_eq, nat_le, nat_lt, slice_index}
+use Rattle.std.specs.Prelude.{◌≡◌, ℕ, zero, suc, ◌+◌, ◌*◌, ◌^◌, ◌<◌, ◌≤◌, Bool, true, false, cond, not, ◌&&◌, ◌||◌, ltb, ◌⊎◌, List, length, take, drop, is_some, Some, None, Option, ◌==◌, nat_eq, nat_le, nat_lt, slice_index}
 use Rattle.std.specs.Option.{option_map}
 use Rattle.ruling.specs.declared.refusal.Refusal.{Refusal}
 use Rattle.ruling.specs.declared.refusal.Refusal.TheVariants.{TableHead, TableDirectory, TableByte}

@@ -1,5 +1,5 @@
 -- A ruling of a make of its own: no road anywhere.
-use Rattle.std.specs.Prelude.{◌≡◌, ℕ, zero, suc, ◌<◌, ◌≤◌, max, Bool, true, false, cond, List, [], ◌∷◌, length, ◌==◌}
+use Rattle.std.specs.Prelude.{ℕ, zero, suc, ◌<◌, max, Bool, true, false, cond, List, [], ◌∷◌, ◌==◌}
 use Rattle.std.proofs.Common.{arith, lit<, lit≤}
 use Rattle.ruling.specs.Meanings.{Meaning, Fits, none, one, two}
 use Rattle.ruling.specs.KindLists.{Ranks}

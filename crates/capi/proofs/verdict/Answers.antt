@@ -1,4 +1,4 @@
-use Rattle.std.proofs.Common.{◌≡◌, ℕ, List, sym, ap, ◌∙◌}
+use Rattle.std.proofs.Common.{ℕ, List, sym, ap, ◌∙◌}
 use Rattle.ruling.specs.Checks.{unless}
 use Rattle.judging.specs.Judging.{judged_bytes}
 use Rattle.table.specs.TableFiles.{file_meaning}

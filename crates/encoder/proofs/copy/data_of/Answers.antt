@@ -1,4 +1,4 @@
-use Rattle.std.proofs.Common.{◌≡◌, length, ap, ◌∙◌}
+use Rattle.std.proofs.Common.{length, ap, ◌∙◌}
 use Rattle.encoder.proofs.Copies.{cells_listed}
 use Rattle.encoder.proofs.copy.data_of.Goals as goal
 

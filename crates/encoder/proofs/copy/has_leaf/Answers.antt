@@ -1,4 +1,4 @@
-use Rattle.std.proofs.Common.{◌≡◌, ◌∙◌}
+use Rattle.std.proofs.Common.{◌∙◌}
 use Rattle.encoder.specs.Tables.{kinds_held}
 use Rattle.encoder.proofs.Copies.{leaf_told}
 use Rattle.encoder.proofs.copy.has_leaf.Goals as goal

@@ -1,4 +1,4 @@
-use Rattle.std.proofs.Common.{◌≡◌, length, refl, arith}
+use Rattle.std.proofs.Common.{length, refl, arith}
 use Rattle.ruling.specs.Written.{mark_byte, body_at}
 use Rattle.encoder.specs.Tables.{table_meaning}
 use Rattle.encoder.proofs.Writing.{wrote_more}

@@ -1,4 +1,4 @@
-use Rattle.std.proofs.Common.{◌≡◌, ◌+◌, length, take}
+use Rattle.std.proofs.Common.{take}
 use Rattle.ruling.specs.Written.{joined}
 use Rattle.encoder.specs.Encodings.{Wrote, table_blocks}
 use Rattle.encoder.proofs.write_blocks.write_blocks.Given as goal

@@ -1,4 +1,4 @@
-use Rattle.std.proofs.Common.{◌≡◌, ℕ, [], ◌∷◌, ◌++◌, sym, ap, ◌∙◌, arith}
+use Rattle.std.proofs.Common.{ℕ, [], ◌∷◌, ◌++◌, sym, ap, ◌∙◌, arith}
 use Rattle.ruling.specs.Written.{row, mark_byte}
 use Rattle.encoder.specs.Tables.{table_meaning}
 use Rattle.encoder.proofs.Writing.{wrote_more}

@@ -1,4 +1,4 @@
-use Rattle.std.proofs.Common.{◌≡◌, ℕ, ◌≤◌, List, [], length, sym, ap, ◌∙◌, ap₂, arith}
+use Rattle.std.proofs.Common.{ℕ, ◌≤◌, List, [], length, sym, ap, ◌∙◌, ap₂, arith}
 use Rattle.ruling.specs.Trees.{node_count}
 use Rattle.ruling.specs.Listed.{list_of}
 use Rattle.record.specs.Reading.{read_from}

@@ -1,4 +1,4 @@
-use Rattle.std.proofs.Common.{◌≡◌, ℕ, ◌≤◌, length, Some, None, sym, ap, ◌∙◌, subst, arith, length-take}
+use Rattle.std.proofs.Common.{◌≡◌, ℕ, ◌≤◌, length, None, sym, subst, arith, length-take}
 use Rattle.ruling.specs.KindLists.{differing}
 use Rattle.ruling.specs.Listed.{list_of}
 use Rattle.ruling.proofs.Lists.{lists_same, same_kinds, differ_at}

@@ -1,4 +1,4 @@
-use Rattle.std.proofs.Common.{◌<◌, length, arith}
+use Rattle.std.proofs.Common.{arith}
 use Rattle.ruling.proofs.Lists.{above_at, none_above}
 use Rattle.ruling.proofs.kind_list.check_small.Goals as goal
 

@@ -1,4 +1,4 @@
-use Rattle.std.proofs.Common.{ℕ, ◌<◌, ◌≤◌, get_or}
+use Rattle.std.proofs.Common.{ℕ, ◌<◌, get_or}
 use Rattle.ruling.proofs.kind_list.has_leaf.Given as goal
 
 abbrev pub invariant-loop-rank : goal.invariant-loop-rank

@@ -1,4 +1,4 @@
-use Rattle.std.proofs.Common.{◌≡◌, ℕ, ◌*◌, drop, vec_items}
+use Rattle.std.proofs.Common.{◌≡◌, ◌*◌, drop, vec_items}
 use Rattle.script.specs.Arguments.{hex_bytes}
 use Rattle.script.proofs.Numbers.{onto}
 use Rattle.script.proofs.arguments.hex_bytes.Given as goal

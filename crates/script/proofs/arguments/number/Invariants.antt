@@ -1,4 +1,4 @@
-use Rattle.std.proofs.Common.{◌≡◌, ℕ, ◌≤◌, min, drop}
+use Rattle.std.proofs.Common.{◌≡◌, ◌≤◌, min, drop}
 use Rattle.std.specs.Option.{option_map}
 use Rattle.script.specs.Arguments.{numeral, number_in}
 use Rattle.script.proofs.arguments.number.Given as goal

@@ -1,4 +1,4 @@
-use Rattle.std.proofs.Common.{◌≡◌, ℕ, length, get_or, sym, ap, arith}
+use Rattle.std.proofs.Common.{length, get_or, sym, ap, arith}
 use Rattle.script.proofs.Splitting.{words_same, words_differ}
 use Rattle.script.proofs.words.same_word.Goals as goal
 

@@ -1,4 +1,4 @@
-use Rattle.std.proofs.Common.{◌≡◌, ℕ, ◌<◌, ap, arith}
+use Rattle.std.proofs.Common.{ℕ, ◌<◌, ap, arith}
 use Rattle.ruling.proofs.Lists.{a_rank}
 use Rattle.table.specs.TableFiles.{kind_count_in, ranks_in, states_in, cell_number}
 use Rattle.table.specs.FileRuled.{kind_count, headed, cell_in_file}

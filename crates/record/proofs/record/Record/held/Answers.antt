@@ -1,4 +1,4 @@
-use Rattle.std.proofs.Common.{refl, arith}
+use Rattle.std.proofs.Common.{refl}
 use Rattle.ruling.specs.Listed.{list_of}
 use Rattle.record.proofs.HeldTree.{one_ok, is_written, count_held}
 use Rattle.record.proofs.record.Record.held.Goals as goal

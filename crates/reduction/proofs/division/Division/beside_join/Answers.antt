@@ -1,4 +1,4 @@
-use Rattle.std.proofs.Common.{sym, refl, ◌∙◌, arith}
+use Rattle.std.proofs.Common.{sym, refl, ◌∙◌}
 use Rattle.reduction.proofs.Bounds.{place_of}
 use Rattle.reduction.proofs.Dividing.{small_classes, finer_as, finer_on, both_one}
 use Rattle.reduction.proofs.division.Division.beside_join.Goals as goal

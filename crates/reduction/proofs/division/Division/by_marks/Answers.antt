@@ -1,4 +1,4 @@
-use Rattle.std.proofs.Common.{refl, ◌∙◌, arith}
+use Rattle.std.proofs.Common.{refl}
 use Rattle.reduction.proofs.Dividing.{listing_as, fewer_lives, whole_room, marks_lives, marks_classed}
 use Rattle.reduction.proofs.Splitting.{room_on}
 use Rattle.reduction.proofs.division.Division.by_marks.Goals as goal

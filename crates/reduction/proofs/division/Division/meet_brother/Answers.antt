@@ -1,4 +1,4 @@
-use Rattle.std.proofs.Common.{false, sym, refl, subst, arith}
+use Rattle.std.proofs.Common.{false, sym, refl, subst}
 use Rattle.reduction.specs.Dividing.{EvenUnder}
 use Rattle.reduction.proofs.Searching.{true_false}
 use Rattle.reduction.proofs.division.Division.meet_brother.Goals as goal

@@ -1,4 +1,4 @@
-use Rattle.std.proofs.Common.{◌≡◌, refl, ◌∙◌, arith}
+use Rattle.std.proofs.Common.{◌∙◌, arith}
 use Rattle.reduction.specs.Dividing.{class_key}
 use Rattle.reduction.proofs.Dividing.{room_of, keys_same, class_key_same, split_classed, split_lives, fewer_lives}
 use Rattle.reduction.proofs.Splitting.{room_on}

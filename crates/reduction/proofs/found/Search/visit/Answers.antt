@@ -1,6 +1,6 @@
-use Rattle.std.proofs.Common.{refl, arith}
+use Rattle.std.proofs.Common.{refl}
 use Rattle.reduction.proofs.Bounds.{place_of, list_fits}
-use Rattle.reduction.proofs.Searching.{target_reached, slot, found_more, grown_more, seen_at}
+use Rattle.reduction.proofs.Searching.{target_reached, found_more, grown_more, seen_at}
 use Rattle.reduction.proofs.found.Search.visit.Goals as goal
 
 pub target_of-t-requires : goal.target_of-t-requires

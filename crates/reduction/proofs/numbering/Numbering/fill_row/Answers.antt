@@ -1,4 +1,4 @@
-use Rattle.std.proofs.Common.{◌≡◌, ℕ, ◌<◌, length, sym, ◌∙◌, subst, arith}
+use Rattle.std.proofs.Common.{ℕ, ◌<◌, length, sym, ◌∙◌, subst, arith}
 use Rattle.ruling.proofs.ArgumentLists.{fits_kind}
 use Rattle.encoder.proofs.Copies.{fits_small}
 use Rattle.reduction.proofs.Cells.{cell_room, filling_at}

@@ -1,4 +1,4 @@
-use Rattle.std.proofs.Common.{false, length, sym, refl, ap, ◌∙◌, arith}
+use Rattle.std.proofs.Common.{false, length, refl, ap, ◌∙◌, arith}
 use Rattle.reduction.specs.Numberings.{meaning_by}
 use Rattle.reduction.proofs.Bounds.{fresh}
 use Rattle.reduction.proofs.Cells.{place_parts}
