@@ -1,36 +1,43 @@
 # `make example` builds the program `replay` and runs it on the example script; `make test` runs all tests.
 
 BUILD := target/made
+REPLAY := target/bin/replay
+ARCHIVE := target/staticlib/libcapi.a
 
-# Jobs are started in batches, and a batch waits for its slowest: four at a time keep the two cores of our machines busy.
-export RT_JOBS ?= 4
+.PHONY: example test gate replay archive c-example scripts
 
-.PHONY: example test formatted proved c-example scripts
+example: replay
+	$(REPLAY) < examples/trail.script
 
-example: proved
-	target/bin/replay < examples/trail.script
+# The toolchain's gate comes first, on the tree as it was checked out. Its last line is the verdict, which is shown again
+# at the end, once everything else has passed too.
+test: gate
+	$(MAKE) --no-print-directory c-example scripts
+	@tail -n 1 $(BUILD)/gate.log
 
-# Everything else comes before the gate of the toolchain, whose last line is the verdict.
-test: formatted c-example scripts
-	rt ci
+gate:
+	tools/gate $(BUILD)
 
-formatted:
-	rt fmt --check
+# The program, proved and built; it runs once on an empty script.
+replay:
+	mkdir -p $(BUILD) $(dir $(REPLAY))
+	cd crates/replay && rt run < /dev/null > ../../$(BUILD)/replay.log 2>&1 || { tail -n 40 ../../$(BUILD)/replay.log; exit 1; }
+	cp crates/replay/out/replay $(REPLAY)
 
-# The program and the C functions, proved in one go.
-proved:
-	mkdir -p $(BUILD)
-	rt check replay capi > $(BUILD)/check.log 2>&1 || { tail -n 40 $(BUILD)/check.log; exit 1; }
+# The C functions, proved and built.
+archive:
+	mkdir -p $(BUILD) $(dir $(ARCHIVE))
+	cd crates/capi_c && rt lib > ../../$(BUILD)/archive.log 2>&1 || { tail -n 40 ../../$(BUILD)/archive.log; exit 1; }
+	cp crates/capi_c/out/libcapi_c.a $(ARCHIVE)
 
-c-example: proved
-	rt staticlib capi > $(BUILD)/staticlib.log 2>&1 || { tail -n 40 $(BUILD)/staticlib.log; exit 1; }
-	gcc -std=c99 -Wall -Wextra -Werror -O2 -Iinclude examples/judge.c target/staticlib/libcapi.a -o $(BUILD)/judge
+c-example: archive
+	gcc -std=c99 -Wall -Wextra -Werror -O2 -Iinclude examples/judge.c $(ARCHIVE) -o $(BUILD)/judge
 	$(BUILD)/judge > $(BUILD)/judge.out
 	diff -u examples/judge.out $(BUILD)/judge.out
 
 # The shipped scripts, with what they must print and the status they must end with.
-scripts: proved
-	target/bin/replay < examples/trail.script > $(BUILD)/trail.out
+scripts: replay
+	$(REPLAY) < examples/trail.script > $(BUILD)/trail.out
 	diff -u examples/trail.out $(BUILD)/trail.out
-	if target/bin/replay < examples/wrong.script > $(BUILD)/wrong.out; then echo "wrong.script: status 0" >&2; exit 1; fi
+	if $(REPLAY) < examples/wrong.script > $(BUILD)/wrong.out; then echo "wrong.script: status 0" >&2; exit 1; fi
 	diff -u examples/wrong.out $(BUILD)/wrong.out

@@ -1,6 +1,6 @@
 /* Rulebooks for trail records: the functions that a C program calls.
  *
- * Link with target/staticlib/libcapi.a, which `rt staticlib capi` makes.
+ * Link with target/staticlib/libcapi.a, which `make archive` makes.
  *
  * Asked of the caller:
  * - each pointer is valid for reading over the length that follows it, and is
