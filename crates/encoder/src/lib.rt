@@ -13,6 +13,6 @@ mod write_blocks;
 mod write_front;
 
 pub use encoding::{encode, encoded_len};
-pub use places::cell_place;
+pub use places::place_of_cell;
 pub use table_data::TableData;
 pub use table_in_memory::Table;

@@ -7,11 +7,18 @@ const CHILD_ROOM: usize = 32;
 const KIND_ROOM: usize = 1024;
 
 // The place of the cell of a kind and two children.
-pub fn cell_place(kind: usize, a: usize, b: usize) -> usize
+pub fn place_of_cell(kind: u8, a: u8, b: u8) -> usize
+    ensures { result ≡ cell_place kind a b }
+{
+    kind as usize * KIND_ROOM + a as usize * CHILD_ROOM + b as usize
+}
+
+// The same of indices into a table.
+pub(super) fn cell_place(kind: usize, a: usize, b: usize) -> usize
     requires { (kind < 16) × ((a < 32) × (b < 32)) }
     ensures { result ≡ cell_place kind a b }
 {
-    kind * KIND_ROOM + a * CHILD_ROOM + b
+    place_of_cell(kind as u8, a as u8, b as u8)
 }
 
 // The kind and the children whose cell stands at a place.

@@ -254,10 +254,10 @@ rest_all w order n class leader c list sound unders besides = all
 -- One brother more rests, in the circle.
 pub resting_more : (m : Meaning) (order : List ℕ) (n : ℕ) (class leader : List ℕ) (quiet next after : ℕ) → next < n → after ≡ cond (eqb (next + 1) n) 0 (next + 1)
     → EvenBeside m class leader 16 (get_or order next 0) → Resting m order n class leader quiet next → Resting m order n class leader (quiet + 1) after
-resting_more m order n class leader quiet next after h e now-rests rests j l way = go (ℕ_discrete j next) (ℕ_discrete (next + 1) n)
+resting_more m order n class leader quiet next after h e now_rests rests j l way = go (ℕ_discrete j next) (ℕ_discrete (next + 1) n)
   where
     go : Dec (j ≡ next) → Dec (next + 1 ≡ n) → EvenBeside m class leader 16 (get_or order j 0)
-    go (yes f) d = subst (λ z. EvenBeside m class leader 16 (get_or order z 0)) (sym f) now-rests
+    go (yes f) d = subst (λ z. EvenBeside m class leader 16 (get_or order z 0)) (sym f) now_rests
     go (no f) (yes d) = let z : after ≡ 0 = e ∙ ap (λ b. cond b 0 (next + 1)) (eq-eqb (next + 1) n d) in
         rests j l (inl (omega (arith, way), omega (arith, way)))
     go (no f) (no d) = let z : after ≡ next + 1 = e ∙ ap (λ b. cond b 0 (next + 1)) (ne_eqb (next + 1) n d) in later (dec_lt j next) z

@@ -9,15 +9,15 @@ pub shared_more : (live : List ℕ) (n : ℕ) (class leader : List ℕ) (shared 
     → (¬ (get_or leader (get_or class (get_or live n 0) 0) 0 ≡ get_or live n 0) → v ≡ true)
     → (get_or shared (get_or class (get_or live n 0) 0) false ≡ true → v ≡ true)
     → Shared live n class leader shared → Shared live (n + 1) class leader (set shared (get_or class (get_or live n 0) 0) v)
-shared_more live n class leader shared v room now-set was-set done x h ne = go (dec_lt x n) (ℕ_discrete (get_or class (get_or live x 0) 0) (get_or class (get_or live n 0) 0))
+shared_more live n class leader shared v room now_set was_set done x h ne = go (dec_lt x n) (ℕ_discrete (get_or class (get_or live x 0) 0) (get_or class (get_or live n 0) 0))
   where
     go : Dec (x < n) → Dec (get_or class (get_or live x 0) 0 ≡ get_or class (get_or live n 0) 0) → get_or (set shared (get_or class (get_or live n 0) 0) v) (get_or class (get_or live x 0) 0) false ≡ true
     go (yes d) (yes e) = ap (λ z. get_or (set shared (get_or class (get_or live n 0) 0) v) z false) e
-        ∙ (get_or-set_same shared (get_or class (get_or live n 0) 0) v false room ∙ was-set (ap (λ z. get_or shared z false) (sym e) ∙ done x d ne))
+        ∙ (get_or-set_same shared (get_or class (get_or live n 0) 0) v false room ∙ was_set (ap (λ z. get_or shared z false) (sym e) ∙ done x d ne))
     go (yes d) (no e) = get_or-set_other shared (get_or class (get_or live n 0) 0) (get_or class (get_or live x 0) 0) v false e ∙ done x d ne
     go (no d) e = let f : x ≡ n = omega arith in
         ap (λ z. get_or (set shared (get_or class (get_or live n 0) 0) v) (get_or class (get_or live z 0) 0) false) f
-        ∙ (get_or-set_same shared (get_or class (get_or live n 0) 0) v false room ∙ now-set (subst (λ z. ¬ (get_or leader (get_or class (get_or live z 0) 0) 0 ≡ get_or live z 0)) f ne))
+        ∙ (get_or-set_same shared (get_or class (get_or live n 0) 0) v false room ∙ now_set (subst (λ z. ¬ (get_or leader (get_or class (get_or live z 0) 0) 0 ≡ get_or live z 0)) f ne))
 
 pub shared_none : (live class leader : List ℕ) (shared : List Bool) → Shared live 0 class leader shared
 shared_none live class leader shared x h = absurd (omega arith)
@@ -47,7 +47,7 @@ module _ (live : List ℕ) (n : ℕ) (class : List ℕ) (shared : List Bool) (x 
   before v y l d e = let k = so_far.kept y d e in (k.0, omega (arith, k.1), old k.0 k.1 ∙ k.2)
 
   keeping_yes : get_or shared (get_or class (get_or live x 0) 0) false ≡ true → Keeping live n class shared (x + 1) written (w + 1)
-  keeping_yes yes-shared = record { fewer = omega (arith, so_far.fewer); rest = rest; from = λ z l. from z l (dec_lt z w); kept = λ y l e. kept y l e (dec_lt y x) }
+  keeping_yes yes_shared = record { fewer = omega (arith, so_far.fewer); rest = rest; from = λ z l. from z l (dec_lt z w); kept = λ y l e. kept y l e (dec_lt y x) }
     where
       from : (z : ℕ) → z < w + 1 → Dec (z < w) → Among live n (get_or written z 0)
       from z l (yes d) = subst (Among live n) (sym (old z d)) (so_far.from z d)
@@ -58,7 +58,7 @@ module _ (live : List ℕ) (n : ℕ) (class : List ℕ) (shared : List Bool) (x 
       kept y l e (no d) = let f : y ≡ x = omega arith in (w, omega arith, new ∙ ap (λ i. get_or live i 0) (sym f))
 
   keeping_no : ¬ (get_or shared (get_or class (get_or live x 0) 0) false ≡ true) → Keeping live n class shared (x + 1) written w
-  keeping_no not-shared = record {
+  keeping_no not_shared = record {
     fewer = omega (arith, so_far.fewer);
     rest = rest;
     from = λ z l. subst (Among live n) (sym (old z l)) (so_far.from z l);
@@ -67,7 +67,7 @@ module _ (live : List ℕ) (n : ℕ) (class : List ℕ) (shared : List Bool) (x 
     where
       kept : (y : ℕ) → y < x + 1 → get_or shared (get_or class (get_or live y 0) 0) false ≡ true → Dec (y < x) → Among written w (get_or live y 0)
       kept y l e (yes d) = before w y (omega arith) d e
-      kept y l e (no d) = let f : y ≡ x = omega arith in absurd (not-shared (subst (λ i. get_or shared (get_or class (get_or live i 0) 0) false ≡ true) f e))
+      kept y l e (no d) = let f : y ≡ x = omega arith in absurd (not_shared (subst (λ i. get_or shared (get_or class (get_or live i 0) 0) false ≡ true) f e))
 
 -- Either way of the count.
 pub keeping_more : (live : List ℕ) (n : ℕ) (class : List ℕ) (shared : List Bool) (x : ℕ) (after : List ℕ) (w v : ℕ) → Keeping live n class shared x after w

@@ -12,7 +12,7 @@ use super::numbering::Numbering;
 use super::partition::Partition;
 use super::questions::mark_of;
 use super::spans::spans;
-use encoder::{Table, TableData, cell_place};
+use encoder::{Table, TableData, place_of_cell};
 use ruling::{Ruling, kinds_of};
 
 fn rank_or_zero<R: Ruling>(ruling: &R, kind: u8) -> u8
@@ -69,7 +69,7 @@ impl Numbering {
     {
         for b in 0..seconds {
             let cell = self.cell(ruling, partition, kind, a, b);
-            cells[cell_place(kind as usize, a as usize, b as usize)] = cell;
+            cells[place_of_cell(kind, a, b)] = cell;
         }
     }
 

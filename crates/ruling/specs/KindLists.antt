@@ -1,5 +1,5 @@
 -- Kind lists: when one is a kind list at all, its faults, and where two of them differ.
-use Rattle.std.specs.Prelude.{ℕ, ◌<◌, ◌≤◌, max, Bool, true, false, cond, not, ◌&&◌, ltb, List, length, is_some, Some, None, Option, ◌==◌, nat_eq, nat_le, nat_lt, slice_index}
+use Rattle.std.specs.Prelude.{ℕ, ◌<◌, ◌≤◌, max, Bool, true, false, cond, not, ◌&&◌, List, length, is_some, Some, None, Option, ◌==◌, nat_eq, nat_le, nat_lt, slice_index}
 use Rattle.std.specs.Option.{option_map}
 use Rattle.ruling.specs.declared.refusal.Refusal.{Refusal}
 use Rattle.ruling.specs.declared.refusal.Refusal.TheVariants.{KindCount, RankAbove, NoLeafKind, KindsDiffer}
@@ -23,7 +23,7 @@ abbrev pub count_fault : List ℕ → Option Refusal
 count_fault ks = cond (nat_lt 0 (length ks) && nat_le (length ks) 16) None (Some (KindCount (length ks)))
 
 abbrev pub rank_fault : List ℕ → Option Refusal
-rank_fault ks = option_map (λ k. RankAbove k) (lowest (λ k. ltb 2 (slice_index ks k)) 0 (length ks))
+rank_fault ks = option_map (λ k. RankAbove k) (lowest (λ k. nat_lt 2 (slice_index ks k)) 0 (length ks))
 
 abbrev pub list_fault : List ℕ → Option Refusal
 list_fault ks = first (count_fault ks) (rank_fault ks)

@@ -7,5 +7,5 @@ pub(super) struct KeptTable {
     pub(super) bytes: Vec<u8>,
     pub(super) states: u16,
     ghost sound: { is_some (table_fault bytes.items) ≡ false },
-    ghost counted: { states ≡ (file_meaning (bytes.items)).states },
+    ghost counted: { states ≡ (file_meaning bytes.items).states },
 }

@@ -1,5 +1,5 @@
 -- A file has no fault exactly where it is a table file.
-use Rattle.std.specs.Prelude.{◌≡◌, ℕ, zero, suc, ◌+◌, ◌-◌, ◌^◌, ◌<◌, ◌≤◌, Bool, true, false, cond, not, ◌&&◌, ltb, ◌⊎◌, List, length, Some, None, Option, ◌==◌, nat_le, nat_lt, refl}
+use Rattle.std.specs.Prelude.{◌≡◌, ℕ, zero, suc, ◌+◌, ◌-◌, ◌^◌, ◌<◌, ◌≤◌, Bool, true, false, cond, not, ◌&&◌, ◌⊎◌, List, length, Some, None, Option, ◌==◌, nat_le, nat_lt, refl}
 use Rattle.std.proofs.Common.{◌∙◌, ap, ap₂, subst, inl, inr, arith, ltb-false, leb-true, leb-false, eqb-true, le-ltb, le-leb, eq-eqb}
 use Rattle.std.proofs.Math.Decide.{ℕ_discrete}
 use Rattle.std.specs.Option.{option_map}
@@ -108,10 +108,10 @@ leaf_faultless ks e = ap (λ b. cond b None (Some NoLeafKind)) e
 -- the marks
 marks_right : (f : List ℕ) → mark_fault f ≡ None → (s : ℕ) → s < states_in f → byte_at f (mark_place f s) ≤ 1
 marks_right f e s l = ltb-false 1 (byte_at f (mark_place f s))
-    (none_lowest (λ p. ltb 1 (byte_at f p)) (mark_place f 0) (states_in f) (mapped_none (λ p. TableByte p) _ e) (mark_place f s) (omega arith) (omega arith))
+    (none_lowest (λ p. nat_lt 1 (byte_at f p)) (mark_place f 0) (states_in f) (mapped_none (λ p. TableByte p) _ e) (mark_place f s) (omega arith) (omega arith))
 
 marks_faultless : (f : List ℕ) → ((s : ℕ) → s < states_in f → byte_at f (mark_place f s) ≤ 1) → mark_fault f ≡ None
-marks_faultless f h = ap (option_map (λ p. TableByte p)) (lowest_none (λ p. ltb 1 (byte_at f p)) (mark_place f 0) (states_in f)
+marks_faultless f h = ap (option_map (λ p. TableByte p)) (lowest_none (λ p. nat_lt 1 (byte_at f p)) (mark_place f 0) (states_in f)
     (λ i l u. le-ltb 1 (byte_at f i) (at_place i l u)))
   where
     at_place : (i : ℕ) → mark_place f 0 ≤ i → i < mark_place f 0 + states_in f → byte_at f i ≤ 1

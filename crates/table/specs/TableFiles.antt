@@ -1,5 +1,5 @@
 -- The table file, byte by byte: what its parts are, when bytes are a table file, and its first fault.
-use Rattle.std.specs.Prelude.{◌≡◌, ℕ, zero, suc, ◌+◌, ◌*◌, ◌^◌, ◌<◌, ◌≤◌, Bool, true, false, cond, not, ◌&&◌, ◌||◌, ltb, ◌⊎◌, List, length, take, drop, is_some, Some, None, Option, ◌==◌, nat_eq, nat_le, nat_lt, slice_index}
+use Rattle.std.specs.Prelude.{◌≡◌, ℕ, zero, suc, ◌+◌, ◌*◌, ◌^◌, ◌<◌, ◌≤◌, Bool, true, false, cond, not, ◌&&◌, ◌||◌, ◌⊎◌, List, length, take, drop, is_some, Some, None, Option, ◌==◌, nat_eq, nat_le, nat_lt, slice_index}
 use Rattle.std.specs.Option.{option_map}
 use Rattle.ruling.specs.declared.refusal.Refusal.{Refusal}
 use Rattle.ruling.specs.declared.refusal.Refusal.TheVariants.{TableHead, TableDirectory, TableByte}
@@ -84,7 +84,7 @@ head_fault f = cond (nat_lt 65535 (length f)) (Some (TableHead 65535))
 
 -- Fault 6 among the marks: the first that is neither 0 nor 1.
 abbrev pub mark_fault : List ℕ → Option Refusal
-mark_fault f = option_map (λ p. TableByte p) (lowest (λ p. ltb 1 (byte_at f p)) (mark_place f 0) (states_in f))
+mark_fault f = option_map (λ p. TableByte p) (lowest (λ p. nat_lt 1 (byte_at f p)) (mark_place f 0) (states_in f))
 
 -- Fault 5 of one pair, where the block before ends at `from`: offset, length, end of file.
 abbrev pub pair_fault : List ℕ → ℕ → ℕ → Option Refusal
