@@ -1,9 +1,13 @@
 // Prints the target questions of reductions, part by part, for the inputs that measurements are made on.
 #![tactic(auto)]
 
+mod drawing;
+mod draws;
+mod grid;
 mod measure;
 mod outcome;
 mod questions;
+mod record_grid;
 mod tally;
 mod total;
 mod workloads;

@@ -1,9 +1,10 @@
+use super::grid::Grid;
 use super::measure::measure;
 use super::outcome::Outcome;
 use super::questions::Questions;
 use super::total::Total;
 use anyhow::anyhow;
-use samples::{Arithmetic, Grid, Opening, Product, Rules, Sample, open};
+use samples::{Arithmetic, Opening, Product, Rules, Sample, open};
 use std::alloc::{AllocError, Global};
 
 // Reduces a sample and prints its line.

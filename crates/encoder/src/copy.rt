@@ -20,7 +20,7 @@ fn rank_or_zero<R: Ruling>(ruling: &R, kind: u8) -> u8
     }
 }
 
-fn ranks_of<R: Ruling>(ruling: &R) -> [u8; 16]
+pub fn ranks_of<R: Ruling>(ruling: &R) -> [u8; 16]
     ensures { (k : ℕ) → k < 16 → slice_index result k ≡ unwrap_or (rank_in (R.Ruling.meaning ruling.now).plain.kinds k) 0 }
 {
     let mut ranks = [0; 16];

@@ -12,6 +12,7 @@ mod table_ruling;
 mod write_blocks;
 mod write_front;
 
+pub use copy::ranks_of;
 pub use encoding::{encode, encoded_len};
 pub use places::place_of_cell;
 pub use table_data::TableData;

@@ -1,7 +1,5 @@
 ghost use Rattle.std.specs.Prelude.{◌≡◌, ℕ, ◌+◌, ◌<◌, true, false, length, slice_index, slice_index_or};
-ghost use Rattle.std.specs.Option.{unwrap_or};
 ghost use Rattle.ruling.specs.Meanings.{Fits};
-ghost use Rattle.ruling.specs.Questions.{rank_in};
 ghost use Rattle.ruling.specs.KindLists.{has_leaf};
 ghost use Rattle.ruling.specs.WrittenTables.{TableOf};
 ghost use Rattle.encoder.specs.Tables.{cell_place, table_meaning, CopyOf, Clean};
@@ -12,29 +10,8 @@ use super::numbering::Numbering;
 use super::partition::Partition;
 use super::questions::mark_of;
 use super::spans::spans;
-use encoder::{Table, TableData, place_of_cell};
+use encoder::{Table, TableData, place_of_cell, ranks_of};
 use ruling::{Ruling, kinds_of};
-
-fn rank_or_zero<R: Ruling>(ruling: &R, kind: u8) -> u8
-    ensures { result ≡ unwrap_or (rank_in (R.Ruling.meaning ruling.now).plain.kinds kind) 0 }
-{
-    match ruling.rank(kind) {
-        Some(rank) => rank,
-        None => 0,
-    }
-}
-
-// The ranks of a ruling's kinds, with zeros behind.
-fn ranks_of<R: Ruling>(ruling: &R) -> [u8; 16]
-    ensures { (k : ℕ) → k < 16 → slice_index result k ≡ unwrap_or (rank_in (R.Ruling.meaning ruling.now).plain.kinds k) 0 }
-{
-    let mut ranks = [0; 16];
-    for kind in 0..16u8 {
-        let rank = rank_or_zero(ruling, kind);
-        ranks[kind as usize] = rank;
-    }
-    ranks
-}
 
 impl Numbering {
     // The cell of an argument list.

@@ -1,10 +1,10 @@
 -- There is at most one proof that a table is reduced, so a truncated one gives it back.
-use Rattle.std.proofs.Common.{◌≡◌, ℕ, ◌<◌, ◌≤◌, ◌⊎◌, List, length, get_or, sym, inl, inr, arith}
+use Rattle.std.proofs.Common.{◌≡◌, ℕ, ◌<◌, ◌≤◌, ◌⊎◌, List, length, get_or, inl, inr, arith}
 use mathlib.Core.HLevel.{Π_prop, ×_prop, is_prop→PathP}
 use mathlib.Core.Logic.{∥∥₁_elim}
 use native.Mathlib.Bridge.{le_prop}
 use native.Mathlib.Nat.{ℕ_set}
-use native.Mathlib.Decide.{dec_lt}
+use Rattle.ruling.proofs.Uniqueness.{order}
 use Rattle.ruling.specs.Trees.{Kind}
 use Rattle.ruling.specs.KindLists.{KindList}
 use Rattle.ruling.specs.Rulings.{Ruled}
@@ -26,28 +26,6 @@ fits_prop ks s k a b (one x y z) (two u v w) = absurd (omega arith)
 fits_prop ks s k a b (two x y z) (none u v w) = absurd (omega arith)
 fits_prop ks s k a b (two x y z) (one u v w) = absurd (omega arith)
 fits_prop ks s k a b (two x y z) (two u v w) = λ i. two (kind_prop ks k 2 x u i) (le_prop y v i) (le_prop z w i)
-
-three : (a b : ℕ) → (a < b) ⊎ ((a ≡ b) ⊎ (b < a))
-three a b = go (dec_lt a b) (dec_lt b a)
-  where
-    go : Dec (a < b) → Dec (b < a) → (a < b) ⊎ ((a ≡ b) ⊎ (b < a))
-    go (yes h) _ = inl h
-    go (no h) (yes g) = inr (inr g)
-    go (no h) (no g) = inr (inl (omega arith))
-
--- of two argument lists, one is before the other, or they are the same
-order : (k a b l c d : ℕ) → Before k a b l c d ⊎ (((k ≡ l) × (a ≡ c) × (b ≡ d)) ⊎ Before l c d k a b)
-order k a b l c d = go (three k l) (three a c) (three b d)
-  where
-    go : (k < l) ⊎ ((k ≡ l) ⊎ (l < k)) → (a < c) ⊎ ((a ≡ c) ⊎ (c < a)) → (b < d) ⊎ ((b ≡ d) ⊎ (d < b))
-        → Before k a b l c d ⊎ (((k ≡ l) × (a ≡ c) × (b ≡ d)) ⊎ Before l c d k a b)
-    go (inl h) _ _ = inl (inl h)
-    go (inr (inr h)) _ _ = inr (inr (inl h))
-    go (inr (inl e)) (inl h) _ = inl (inr (e, inl h))
-    go (inr (inl e)) (inr (inr h)) _ = inr (inr (inr (sym e, inl h)))
-    go (inr (inl e)) (inr (inl f)) (inl h) = inl (inr (e, inr (f, h)))
-    go (inr (inl e)) (inr (inl f)) (inr (inr h)) = inr (inr (inr (sym e, inr (sym f, h))))
-    go (inr (inl e)) (inr (inl f)) (inr (inl g)) = inr (inl (e, f, g))
 
 first_prop : (ks : List ℕ) (m : Meaning) (s : ℕ) → IsProp (Next ks m s)
 first_prop ks m s f g = go (order f.kind f.first f.second g.kind g.first g.second)

@@ -18,7 +18,7 @@ three a b = go (dec_lt a b) (dec_lt b a)
     go (no h) (no g) = inr (inl (omega arith))
 
 -- of two argument lists, one is before the other, or they are the same
-order : (k a b l c d : ℕ) → Before k a b l c d ⊎ (((k ≡ l) × (a ≡ c) × (b ≡ d)) ⊎ Before l c d k a b)
+pub order : (k a b l c d : ℕ) → Before k a b l c d ⊎ (((k ≡ l) × (a ≡ c) × (b ≡ d)) ⊎ Before l c d k a b)
 order k a b l c d = go (three k l) (three a c) (three b d)
   where
     go : (k < l) ⊎ ((k ≡ l) ⊎ (l < k)) → (a < c) ⊎ ((a ≡ c) ⊎ (c < a)) → (b < d) ⊎ ((b ≡ d) ⊎ (d < b))

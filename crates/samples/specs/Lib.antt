@@ -1,4 +1,3 @@
 pub mod Samples
 pub mod Arithmetics
-pub mod Grids
 pub mod Products

@@ -3,19 +3,14 @@
 
 mod arithmetic;
 mod counted;
-mod drawing;
-mod draws;
-mod grid;
 mod opening;
 mod product;
-mod record_grid;
 mod rules;
 mod sample;
 mod sampling;
 
 pub use arithmetic::Arithmetic;
 pub use counted::Counted;
-pub use grid::Grid;
 pub use opening::Opening;
 pub use product::Product;
 pub use rules::Rules;

@@ -2,7 +2,7 @@ ghost use Rattle.std.specs.Prelude.{◌<◌, ◌≤◌};
 
 use super::no_road::NoRoad;
 use super::tests::{NO_ROAD_FILE, refused};
-use encoder::encode;
+use encoder::{Table, encode};
 use reduction::reduce;
 use ruling::Refusal;
 use samples::{Arithmetic, Sample, open};
@@ -10,55 +10,37 @@ use std::process::Abort;
 use std::test::Fail;
 use table::{FlatTable, check_table};
 
-#[test]
-fn reduced_and_encoded(rt: HostRuntime) -> Result<(), Fail> {
-    let Ok(table) = reduce(&NoRoad) else {
-        return Err(Fail::new("it needs two states"));
+// The reduced table is written as this file.
+fn writes(rt: &impl Abort, reduced: Result<Table, Refusal>, file: &[u8]) -> Result<(), Fail> {
+    let Ok(table) = reduced else {
+        return Err(Fail::new("a table of few states"));
     };
-    let mut out = [7; 36];
-    match encode(&table, &mut out) {
-        Ok(length) => assert_eq!(rt; length, 34),
-        Err(_) => return Err(Fail::new("there is room")),
-    }
-    assert_eq!(rt; &out[0..34], NO_ROAD_FILE.as_slice());
-    assert!(rt; out[34] == 7 && out[35] == 7);
-    Ok(())
-}
-
-#[test]
-fn short_buffer(rt: HostRuntime) -> Result<(), Fail> {
-    let Ok(table) = reduce(&NoRoad) else {
-        return Err(Fail::new("it needs two states"));
-    };
-    let mut out = [7; 33];
-    assert_eq!(rt; refused(encode(&table, &mut out)), Some((13, 34)));
-    assert_eq!(rt; out, [7; 33]);
-    Ok(())
-}
-
-// Writes the file of the set of a table file, and answers its length.
-fn reduce_file(file: &[u8], out: &mut [u8]) -> Result<usize, Refusal> {
-    let states = check_table(file)?;
-    let table = reduce(&FlatTable::make(file, states))?;
-    encode(&table, out)
-}
-
-// The file is reduced to the other.
-fn reduces_to(rt: &impl Abort, file: &[u8], reduced: &[u8]) -> Result<(), Fail> {
     let mut out = [0; 80];
-    match reduce_file(file, &mut out) {
+    match encode(&table, &mut out) {
         Ok(length) if length <= 80 => {
-            assert_eq!(rt; &out[0..length], reduced);
+            assert_eq!(rt; &out[0..length], file);
             Ok(())
         },
-        _ => Err(Fail::new("a table of few states")),
+        _ => Err(Fail::new("there is room")),
     }
+}
+
+// A make that no crate below knows.
+#[test]
+fn no_road(rt: HostRuntime) -> Result<(), Fail> {
+    writes(&rt, reduce(&NoRoad), NO_ROAD_FILE)
+}
+
+// The table of the set of a table file.
+fn reduce_file(file: &[u8]) -> Result<Table, Refusal> {
+    let states = check_table(file)?;
+    reduce(&FlatTable::make(file, states))
 }
 
 // The file is reduced to the other, and the other stays as it is.
 fn reduces(rt: &impl Abort, file: &[u8], reduced: &[u8]) -> Result<(), Fail> {
-    reduces_to(rt, file, reduced)?;
-    reduces_to(rt, reduced, reduced)
+    writes(rt, reduce_file(file), reduced)?;
+    writes(rt, reduce_file(reduced), reduced)
 }
 
 // Over path, road, sign and join.
@@ -232,10 +214,7 @@ fn cycle_refused(states: u16) -> Option<(u8, usize)>
 #[test]
 fn needs(rt: HostRuntime) -> Result<(), Fail> {
     reduces(&rt, UNDER_30_SIGNS, UNDER_30_SIGNS)?;
-    assert_eq!(rt;
-        refused(reduce_file(UNDER_31_SIGNS, &mut [0; 80])),
-        Some((12, 33))
-    );
+    assert_eq!(rt; refused(reduce_file(UNDER_31_SIGNS)), Some((12, 33)));
     assert_eq!(rt; cycle_refused(256), Some((12, 256)));
     assert_eq!(rt; cycle_refused(1089), Some((12, 1089)));
     Ok(())

@@ -56,7 +56,7 @@ impl Grid {
     // The rules of one record of 31 nodes over ranks 0 0 1 2, with 32 states: a part's state is the lowest position at which an
     // equal part ends, what is no part leads to 31, and the whole record's state alone is marked.
     // The record is drawn from a seed, node by node: a draw modulo 4 is the kind, or else the next one that fits.
-    pub fn of_record(heap: Global, seed: u32) -> Result<Grid, AllocError> {
+    pub(super) fn of_record(heap: Global, seed: u32) -> Result<Grid, AllocError> {
         let mut draws = Draws::from(seed);
         let mut cells = vec![in heap; 31; 4096]?;
         let mut marks = vec![in heap; false; 32]?;

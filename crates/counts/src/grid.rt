@@ -1,11 +1,11 @@
 ghost use Rattle.std.specs.Prelude.{◌≡◌, false, slice_index, slice_index_or};
-ghost use Rattle.samples.specs.Grids.{cell_at};
+ghost use Rattle.counts.specs.Grids.{cell_at};
 
-use super::rules::Rules;
+use samples::Rules;
 
 // Rules in cells, one for each kind and two states, and marks. What is missing is 0, or no.
 #[derive(Drop)]
-pub struct Grid {
+pub(super) struct Grid {
     pub(super) cells: Vec<u16>,
     pub(super) marks: Vec<bool>,
 }

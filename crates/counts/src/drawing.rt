@@ -2,7 +2,7 @@ ghost use Rattle.std.specs.Prelude.{◌<◌};
 
 use super::draws::Draws;
 use super::grid::{Grid, cell_at, put};
-use super::opening::Opening;
+use samples::Opening;
 use std::alloc::{AllocError, Global};
 
 // The number of states that stand at a place below a kind of this rank, the first place being 1.
@@ -23,7 +23,7 @@ fn draw_rules(cells: &mut Vec<u16>, draws: &mut Draws, states: u16, kind: u8, ra
 impl Grid {
     // Drawn rules over so many states, at least one: the cells of the argument lists as draws modulo their number, kinds in order, then the
     // first state, then the second; then the marks, as draws modulo 2.
-    pub fn drawn(
+    pub(super) fn drawn(
         heap: Global,
         opening: &Opening,
         states: u16,
