@@ -1,5 +1,5 @@
 // The layer that finds a fault.
-#[derive(Clone, Copy)]
+#[derive(Clone, Copy, Debug, PartialEq, Eq)]
 pub enum Layer {
     // the list of kinds
     Kinds,

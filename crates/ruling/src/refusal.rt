@@ -4,7 +4,7 @@ ghost use Rattle.ruling.specs.Refusals.{told};
 use super::layer::Layer;
 
 // Why a call is refused: one variant for each cause, with what its place needs.
-#[derive(Clone, Copy)]
+#[derive(Clone, Copy, Debug, PartialEq, Eq)]
 pub enum Refusal {
     // a kind list is empty or has more than 16 kinds: its length
     KindCount(usize),
@@ -37,7 +37,7 @@ pub enum Refusal {
 }
 
 // What a refusal tells: its number, the layer that found it, and the place.
-#[derive(Clone, Copy)]
+#[derive(Clone, Copy, Debug, PartialEq, Eq)]
 pub struct Notice {
     pub number: u8,
     pub layer: Layer,
