@@ -1,5 +1,6 @@
 -- The lowest number at which a test holds.
-use Rattle.std.proofs.Common.{◌≡◌, ℕ, zero, suc, ◌+◌, ◌<◌, ◌≤◌, Bool, true, false, cond, Some, None, sym, refl, ap, ◌∙◌, ap₂, arith}
+use Rattle.std.proofs.Common.{◌≡◌, ℕ, zero, suc, ◌+◌, ◌<◌, ◌≤◌, Bool, true, false, cond, Some, None, Option, sym, refl, ap, ◌∙◌, ap₂, arith}
+use Rattle.std.specs.Option.{MatchOption}
 use native.Mathlib.Decide.{ℕ_discrete}
 use Rattle.ruling.specs.Checks.{lowest}
 
@@ -18,6 +19,13 @@ lowest_at P from (suc c) i l u p h = go (ℕ_discrete from i) (λ n. lowest_at P
     go : Dec (from ≡ i) → (¬ (from ≡ i) → lowest P (suc from) c ≡ Some i) → lowest P from (suc c) ≡ Some i
     go (yes e) rest = ap (λ b. cond b (Some from) (lowest P (suc from) c)) (ap P e ∙ p) ∙ ap (λ (x : ℕ). Some x) e
     go (no n) rest = ap₂ (λ b o. cond b (Some from) o) (h from (omega arith) (omega arith)) (rest n)
+
+-- what a search over all numbers below n finds
+pub lowest_first : (P : ℕ → Bool) (n : ℕ) (r : Option ℕ)
+    → MatchOption r ((k : ℕ) → 0 ≤ k → k < n → P k ≡ false) (λ i. (0 ≤ i) × (i < n) × (P i ≡ true) × ((k : ℕ) → 0 ≤ k → k < i → P k ≡ false))
+    → lowest P 0 n ≡ r
+lowest_first P n None h = lowest_none P 0 n (λ i l u. h i l (omega arith))
+lowest_first P n (Some i) h = lowest_at P 0 n i h.0 (omega (arith, h.1)) h.2 h.3
 
 -- where none is found, none passes
 pub none_lowest : (P : ℕ → Bool) (from c : ℕ) → lowest P from c ≡ None → (i : ℕ) → from ≤ i → i < from + c → P i ≡ false

@@ -1,7 +1,8 @@
-ghost use Rattle.std.specs.Prelude.{◌≡◌, ℕ, ◌<◌, ◌≤◌, length, take, None, slice_index};
+ghost use Rattle.std.specs.Prelude.{◌≡◌, ℕ, ◌<◌, ◌≤◌, length, slice_index};
+ghost use Rattle.std.specs.Option.{unwrap_or};
 ghost use Rattle.ruling.specs.Questions.{rank_in};
 ghost use Rattle.ruling.specs.Checks.{Answers};
-ghost use Rattle.ruling.specs.KindLists.{KindList, has_leaf, list_fault, rank_fault, leaf_fault, opening_fault};
+ghost use Rattle.ruling.specs.KindLists.{KindList, list_fault, rank_fault, leaf_fault, opening_fault};
 ghost use Rattle.ruling.specs.Listed.{list_of};
 
 use super::kinds::Kinds;
@@ -11,23 +12,10 @@ use super::refusal::Refusal;
 fn check_small(ranks: &[u8]) -> Result<(), Refusal>
     ensures { Answers (rank_fault ranks.now) (λ _. Unit {0}) result }
 {
-    for (kind, rank) in ranks.iter().enumerate() {
-        if *rank > 2 {
-            return Err(Refusal::RankAbove(kind));
-        }
+    match ranks.iter().position(|rank| *rank > 2) {
+        Some(kind) => Err(Refusal::RankAbove(kind)),
+        None => Ok(()),
     }
-    Ok(())
-}
-
-fn has_leaf(ranks: &[u8]) -> bool
-    ensures { result ≡ has_leaf ranks.now }
-{
-    for rank in ranks {
-        if *rank == 0 {
-            return true;
-        }
-    }
-    false
 }
 
 // Whether these ranks are a kind list: 1, then 2.
@@ -45,7 +33,7 @@ pub fn check_ranks(ranks: &[u8]) -> Result<(), Refusal>
 pub fn check_leaf_kind(ranks: &[u8]) -> Result<(), Refusal>
     ensures { Answers (leaf_fault ranks.now) (λ _. Unit {0}) result }
 {
-    if has_leaf(ranks) {
+    if ranks.contains(&0) {
         Ok(())
     } else {
         Err(Refusal::NoLeafKind)
@@ -60,18 +48,18 @@ pub fn check_opening(ranks: &[u8]) -> Result<(), Refusal>
     check_leaf_kind(ranks)
 }
 
-// The ranks at the front of an array of 16, with zeros behind.
-fn filled(ranks: &[u8]) -> [u8; 16]
-    requires { length ranks.now ≤ 16 }
-    ensures front { take (length ranks.now) result ≡ ranks.now }
-    ensures same { (k : ℕ) → k < length ranks.now → slice_index result k ≡ slice_index ranks.now k }
+// The rank of a kind; none where there is no such kind.
+fn rank_at(ranks: &[u8], kind: usize) -> Option<u8>
+    ensures { result ≡ rank_in ranks.now kind }
 {
-    let mut all = [0; 16];
-    for kind in 0..ranks.len() {
-        let rank = ranks[kind];
-        all[kind] = rank;
-    }
-    all
+    ranks.get(kind).copied()
+}
+
+// The ranks, with zeros behind.
+pub fn padded(ranks: &[u8]) -> [u8; 16]
+    ensures { (k : ℕ) → k < 16 → slice_index result k ≡ unwrap_or (rank_in ranks.now k) 0 }
+{
+    std::array::from_fn(|kind| rank_at(ranks, kind).unwrap_or(0))
 }
 
 impl Kinds {
@@ -80,9 +68,16 @@ impl Kinds {
         requires { KindList ranks.now }
         ensures { list_of result ≡ ranks.now }
     {
-        let all = filled(ranks);
-        let count = ranks.len() as u8;
-        Kinds { count, ranks: all }
+        Kinds {
+            count: ranks.len() as u8,
+            ranks: padded(ranks),
+        }
+    }
+
+    fn ranks(&self) -> &[u8]
+        ensures { result.now ≡ list_of self.now }
+    {
+        &self.ranks[..self.count as usize]
     }
 
     // The number of kinds.
@@ -96,9 +91,6 @@ impl Kinds {
     pub fn rank(&self, kind: u8) -> Option<u8>
         ensures { result ≡ rank_in (list_of self.now) kind }
     {
-        if kind >= self.count {
-            return None;
-        }
-        Some(self.ranks[kind as usize])
+        rank_at(self.ranks(), kind as usize)
     }
 }

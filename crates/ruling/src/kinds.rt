@@ -1,7 +1,7 @@
 ghost use Rattle.std.specs.Prelude.{ℕ, ◌<◌, ◌≤◌, slice_index};
 
 // A kind list: 1 to 16 kinds, numbered from 0, each with a rank of 0 to 2, its number of children.
-#[derive(Clone, Copy)]
+#[derive(Clone, Copy, Debug)]
 pub struct Kinds {
     pub(super) count: u8,
     pub(super) ranks: [u8; 16],
