@@ -30,7 +30,9 @@ pub fn check_same_kinds<R: Ruling>(ruling: &R, kinds: &Kinds) -> Result<(), Refu
 fn kind_count<R: Ruling>(ruling: &R) -> u8
     ensures { result ≡ length (R.Ruling.meaning ruling.now).plain.kinds }
 {
-    (0..16u8).find(|kind| ruling.rank(*kind).is_none()).unwrap_or(16)
+    (0..16u8)
+        .find(|kind| ruling.rank(*kind).is_none())
+        .unwrap_or(16)
 }
 
 // The ranks of a ruling's kinds, with zeros behind.

@@ -1,21 +1,34 @@
-ghost use Rattle.std.specs.Prelude.{◌≡◌, ℕ, ◌<◌, ◌≤◌, length, slice_index};
+ghost use Rattle.std.specs.Prelude.{◌≡◌, ℕ, ◌<◌, ◌≤◌, length, nat_lt, slice_index};
 ghost use Rattle.std.specs.Option.{unwrap_or};
 ghost use Rattle.ruling.specs.Questions.{rank_in};
-ghost use Rattle.ruling.specs.Checks.{Answers};
-ghost use Rattle.ruling.specs.KindLists.{KindList, list_fault, rank_fault, leaf_fault, opening_fault};
+ghost use Rattle.ruling.specs.Checks.{lowest, Answers};
+ghost use Rattle.ruling.specs.KindLists.{KindList, has_leaf, list_fault, rank_fault, leaf_fault, opening_fault};
 ghost use Rattle.ruling.specs.Listed.{list_of};
 
 use super::kinds::Kinds;
 use super::refusal::Refusal;
 
-// Fault 2: the lowest kind with a rank above 2.
+// The lowest kind with a rank above 2.
+fn first_above(ranks: &[u8]) -> Option<usize>
+    ensures { result ≡ lowest (λ k. nat_lt 2 (slice_index ranks.now k)) 0 (length ranks.now) }
+{
+    ranks.iter().position(|rank| *rank > 2)
+}
+
+// Fault 2: a rank above 2.
 fn check_small(ranks: &[u8]) -> Result<(), Refusal>
     ensures { Answers (rank_fault ranks.now) (λ _. Unit {0}) result }
 {
-    match ranks.iter().position(|rank| *rank > 2) {
+    match first_above(ranks) {
         Some(kind) => Err(Refusal::RankAbove(kind)),
         None => Ok(()),
     }
+}
+
+fn has_leaf(ranks: &[u8]) -> bool
+    ensures { result ≡ has_leaf ranks.now }
+{
+    ranks.contains(&0)
 }
 
 // Whether these ranks are a kind list: 1, then 2.
@@ -33,7 +46,7 @@ pub fn check_ranks(ranks: &[u8]) -> Result<(), Refusal>
 pub fn check_leaf_kind(ranks: &[u8]) -> Result<(), Refusal>
     ensures { Answers (leaf_fault ranks.now) (λ _. Unit {0}) result }
 {
-    if ranks.contains(&0) {
+    if has_leaf(ranks) {
         Ok(())
     } else {
         Err(Refusal::NoLeafKind)
@@ -62,6 +75,18 @@ pub fn padded(ranks: &[u8]) -> [u8; 16]
     std::array::from_fn(|kind| rank_at(ranks, kind).unwrap_or(0))
 }
 
+// The kind list of these ranks, checked: 1, then 2.
+impl TryFrom<&[u8]> for Kinds {
+    type Error = Refusal;
+
+    ghost try_from_gives = { λ ranks. Answers (list_fault ranks.now) (λ kinds. list_of kinds ≡ ranks.now) };
+
+    fn try_from(ranks: &[u8]) -> Result<Kinds, Refusal> {
+        check_ranks(ranks)?;
+        Ok(Kinds::make(ranks))
+    }
+}
+
 impl Kinds {
     // The kind list of these ranks, once `check_ranks` has passed them.
     pub fn make(ranks: &[u8]) -> Kinds
@@ -74,6 +99,7 @@ impl Kinds {
         }
     }
 
+    // The ranks, that of kind 0 first.
     fn ranks(&self) -> &[u8]
         ensures { result.now ≡ list_of self.now }
     {
@@ -84,7 +110,7 @@ impl Kinds {
     pub fn len(&self) -> usize
         ensures { result ≡ length (list_of self.now) }
     {
-        self.count as usize
+        self.ranks().len()
     }
 
     // The rank of a kind; none where there is no such kind.

@@ -1,7 +1,5 @@
-use Rattle.std.proofs.Common.{◌≡◌, ℕ, ◌<◌, ◌≤◌, length, Some, None, Option, unwrap_or, rules, tests, arith}
-use Rattle.std.specs.Option.{MatchOption}
+use Rattle.std.proofs.Common.{◌<◌, ◌≤◌, length, rules, tests, arith}
 use Rattle.std.proofs.lemmas.Iterator.{first_from_Range}
-use Rattle.ruling.proofs.Lists.{no_rank, a_rank}
 use Rattle.ruling.proofs.compare.kind_count.Goals as goal
 
 pub returns : goal.returns
