@@ -1,6 +1,7 @@
 -- A walk keeps the values of the parts that stand.
-use Rattle.std.proofs.Common.{◌≡◌, ℕ, zero, suc, ◌+◌, ◌<◌, ◌≤◌, Bool, true, false, cond, ltb, List, [], ◌∷◌, map, length, get_or, drop, Some, None, Ok, Err, Result, sym, refl, ap, ◌∙◌, ap₂, add-one, arith, le-ltb, lt-ltb}
+use Rattle.std.proofs.Common.{◌≡◌, ℕ, zero, suc, ◌+◌, ◌<◌, ◌≤◌, Bool, true, false, cond, ltb, List, [], ◌∷◌, map, length, get_or, drop, Some, None, Ok, Err, Option, Result, sym, refl, ap, ◌∙◌, ap₂, add-one, arith, le-ltb, lt-ltb}
 use lib.ListN.{length-map}
+use Rattle.std.specs.Option.{ok_or}
 use Rattle.std.proofs.lemmas.List.{drop_more, drop_all}
 use Rattle.std.proofs.lemmas.Bool.{cond-true, cond-false}
 use Rattle.ruling.specs.declared.refusal.Refusal.{Refusal}
@@ -10,7 +11,7 @@ use Rattle.ruling.specs.Questions.{rank_in}
 use Rattle.ruling.specs.Checks.{Answers, Kept}
 use Rattle.ruling.proofs.Lists.{a_rank}
 use Rattle.record.specs.Reading.{closed, node_read, ended, after, read_from}
-use Rattle.stack.specs.Stacks.{live, full_fault}
+use Rattle.stack.specs.Stacks.{live, full_fault, Popped}
 use Rattle.judging.specs.Reckonings.{reckoned}
 use Rattle.judging.specs.Walking.{Steps, walked}
 use Rattle.record.proofs.Exact.{node_is}
@@ -20,18 +21,7 @@ use Rattle.stack.proofs.Live.{live_length}
 pub kind_of : (ks : List ℕ) (k r n : ℕ) → Some r ≡ rank_in ks k → r ≡ n → Kind ks k n
 kind_of ks k r n e q = let a = a_rank ks k r e in (a.0, sym a.1 ∙ q)
 
--- what a node of known rank makes of the parts
-made_leaf : (ks : List ℕ) (at : ℕ) (parts next : List Tree) (b : ℕ) → Kind ks b 0 → node_read ks at parts b ≡ Ok next → next ≡ leaf b ∷ parts
-made_leaf ks at parts next b k e = let f = sym (node_is ks at parts b 0 k) ∙ e in cc
-
-made_stem : (ks : List ℕ) (at : ℕ) (parts next : List Tree) (b : ℕ) → Kind ks b 1 → node_read ks at parts b ≡ Ok next
-    → (t : Tree) × (rest : List Tree) × (parts ≡ t ∷ rest) × (next ≡ stem b t ∷ rest)
-made_stem ks at parts next b k e = go parts (sym (node_is ks at parts b 1 k) ∙ e)
-  where
-    go : (ps : List Tree) → closed 1 b at ps ≡ Ok next → (t : Tree) × (rest : List Tree) × (ps ≡ t ∷ rest) × (next ≡ stem b t ∷ rest)
-    go [] f = let z : ◌≡◌ {A = ℕ} 0 1 = cc in absurd (omega arith)
-    go (t ∷ rest) f = (t, rest, refl, (cc))
-
+-- what a node of rank 2 makes of the parts
 made_fork : (ks : List ℕ) (at : ℕ) (parts next : List Tree) (b : ℕ) → Kind ks b 2 → node_read ks at parts b ≡ Ok next
     → (t : Tree) × (u : Tree) × (rest : List Tree) × (parts ≡ u ∷ (t ∷ rest)) × (next ≡ fork b t u ∷ rest)
 made_fork ks at parts next b k e = go parts (sym (node_is ks at parts b 2 k) ∙ e)
@@ -66,19 +56,6 @@ module _ {V : Type 0} (at_leaf : ℕ → V) (at_stem : ℕ → V → V) (at_fork
       (w.0, w.1 ∙ ap₂ ◌∷◌ p q ∙ ap (map value) (sym e))
 
   module _ (ks : List ℕ) (at b : ℕ) (n : ℕ) (s : List V) (r : Result (Unit {0}) Refusal) (out : List V) where
-    pub leaf_step : (v : V) → Kind ks b 0 → v ≡ at_leaf b → Answers (full_fault n (length s)) (λ _. out ≡ v ∷ live n s) r
-        → (parts next : List Tree) → node_read ks at parts b ≡ Ok next → length next ≤ length s → live n s ≡ map value parts → (r ≡ Ok tt) × (out ≡ map value next)
-    leaf_step v k i h parts next e l q = pushed n s v r out (leaf b) parts next (made_leaf ks at parts next b k e) l q i h
-
-    pub stem_step : (before : List V) (x v : V) → Kind ks b 1 → before ≡ x ∷ live n s → v ≡ at_stem b x → Answers (full_fault n (length s)) (λ _. out ≡ v ∷ live n s) r
-        → (parts next : List Tree) → node_read ks at parts b ≡ Ok next → length next ≤ length s → before ≡ map value parts → (r ≡ Ok tt) × (out ≡ map value next)
-    stem_step before x v k p j h parts next e l q =
-        let m = made_stem ks at parts next b k e in
-        let f : x ∷ live n s ≡ value m.0 ∷ map value m.1 = sym p ∙ q ∙ ap (map value) m.2 in
-        let g : x ≡ value m.0 = cc in
-        let i : live n s ≡ map value m.1 = cc in
-        pushed n s v r out (stem b m.0) m.1 next m.3 l i (j ∙ ap (at_stem b) g) h
-
     pub fork_step : (before middle : List V) (x y v : V) → Kind ks b 2 → before ≡ y ∷ middle → middle ≡ x ∷ live n s → v ≡ at_fork b x y
         → Answers (full_fault n (length s)) (λ _. out ≡ v ∷ live n s) r
         → (parts next : List Tree) → node_read ks at parts b ≡ Ok next → length next ≤ length s → before ≡ map value parts → (r ≡ Ok tt) × (out ≡ map value next)
@@ -151,11 +128,10 @@ module _ {V : Type 0} (value : Tree → V) (ks bytes : List ℕ) (t : Tree) wher
       let q = (work_more i room before now (Err e) h l m w).0 in
       let z : ◌≡◌ {A = ℕ} 0 1 = cc in omega arith
 
-pub top_is : {V : Type 0} (x v : V) (vals rest : List V) → vals ≡ x ∷ [] → vals ≡ v ∷ rest → v ≡ x
-top_is x v vals rest p q = let f : x ∷ [] ≡ v ∷ rest = sym p ∙ q in cc
-
-pub no_top : {V : Type 0} (x : V) (vals : List V) → vals ≡ x ∷ [] → vals ≡ [] → ⊥
-no_top x vals p q = let f : x ∷ [] ≡ [] = sym p ∙ q in let z : ◌≡◌ {A = ℕ} 0 1 = cc in omega arith
+-- what a pop gives where one value stands
+pub popped : {V : Type 0} (x : V) (before rest : List V) (r : Option V) (e : Refusal) → before ≡ x ∷ [] → Popped before rest r → ok_or r e ≡ Ok x
+popped x before rest (Some v) e p q = let f : x ∷ [] ≡ v ∷ rest = sym p ∙ q in let g : v ≡ x = cc in ap (λ y. Ok y) g
+popped x before rest None e p q = let f : x ∷ [] ≡ [] = sym p ∙ q.0 in let z : ◌≡◌ {A = ℕ} 0 1 = cc in absurd (omega arith)
 
 -- with room, the answer of a walk is the value
 pub walk_ok : {V : Type 0} (v : V) (need room : ℕ) (r : Result V Refusal) → need ≤ room → r ≡ Ok v → r ≡ walked v need room

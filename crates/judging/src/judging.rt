@@ -1,8 +1,6 @@
-ghost use Rattle.std.specs.Prelude.{◌≡◌, false, length};
-ghost use Rattle.std.specs.Option.{unwrap_or};
+ghost use Rattle.std.specs.Prelude.{◌≡◌, length};
 ghost use Rattle.ruling.specs.Trees.{node_count};
 ghost use Rattle.ruling.specs.Meanings.{accepts};
-ghost use Rattle.ruling.specs.Questions.{marked};
 ghost use Rattle.ruling.specs.Checks.{Kept};
 ghost use Rattle.record.specs.Held.{kinds_of, tree_of};
 ghost use Rattle.judging.specs.Walking.{walked};
@@ -11,18 +9,8 @@ ghost use Rattle.judging.specs.Judging.{judged, judged_bytes, measured};
 use super::states::States;
 use super::tally::{Size, Tally};
 use super::walking::walk;
-use record::{MAX_NODES, Record, check_record};
+use record::Record;
 use ruling::{Refusal, Ruling, check_same_kinds, kinds_of};
-
-// The mark of a state; no where there is no such state.
-fn is_marked<R: Ruling>(ruling: &R, state: u16) -> bool
-    ensures { result ≡ unwrap_or (marked (R.Ruling.meaning ruling.now).plain state) false }
-{
-    match ruling.mark(state) {
-        Some(mark) => mark,
-        None => false,
-    }
-}
 
 // Whether a record over the ruling's kinds is accepted.
 fn is_accepted<R: Ruling>(
@@ -35,7 +23,7 @@ fn is_accepted<R: Ruling>(
     ensures kept { Kept result slots.old slots.new }
 {
     let state = walk(&States { ruling }, record, slots)?;
-    Ok(is_marked(ruling, state))
+    Ok(ruling.mark(state).unwrap_or(false))
 }
 
 // Whether a checked record is accepted: 7 where it was read under another kind list, then 13.
@@ -52,9 +40,7 @@ pub fn judge_bytes<R: Ruling>(ruling: &R, bytes: &[u8], slots: &mut [u16]) -> Re
     ensures answer { result ≡ judged_bytes (R.Ruling.meaning ruling.now).plain bytes.now (length slots.old) }
     ensures kept { Kept result slots.old slots.new }
 {
-    let kinds = kinds_of(ruling);
-    check_record(&kinds, bytes, MAX_NODES)?;
-    let record = Record::make(bytes, kinds);
+    let record = Record::read(bytes, kinds_of(ruling))?;
     is_accepted(ruling, &record, slots)
 }
 

@@ -1,18 +1,7 @@
-ghost use Rattle.std.specs.Prelude.{◌≡◌};
 ghost use Rattle.judging.specs.States.{state_at};
 
 use super::reckoning::Reckoning;
 use ruling::Ruling;
-
-// The target of an argument list; 0 where there is none.
-fn target_or_zero<R: Ruling>(ruling: &R, kind: u8, a: u16, b: u16) -> u16
-    ensures { result ≡ state_at (R.Ruling.meaning ruling.now).plain kind a b }
-{
-    match ruling.target(kind, a, b) {
-        Some(state) => state,
-        None => 0,
-    }
-}
 
 // Reckons the states of a ruling's run.
 #[derive_where(Clone, Copy)]
@@ -30,14 +19,14 @@ impl<'a, R: Ruling> Reckoning for States<'a, R> {
     ghost at_fork = { λ s k a b. state_at (R.Ruling.meaning s.ruling.now).plain k a b };
 
     fn leaf(&self, kind: u8) -> u16 {
-        target_or_zero(self.ruling, kind, 0, 0)
+        self.ruling.target(kind, 0, 0).unwrap_or(0)
     }
 
     fn stem(&self, kind: u8, a: u16) -> u16 {
-        target_or_zero(self.ruling, kind, a, 0)
+        self.ruling.target(kind, a, 0).unwrap_or(0)
     }
 
     fn fork(&self, kind: u8, a: u16, b: u16) -> u16 {
-        target_or_zero(self.ruling, kind, a, b)
+        self.ruling.target(kind, a, b).unwrap_or(0)
     }
 }

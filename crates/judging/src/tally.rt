@@ -3,7 +3,7 @@ ghost use Rattle.judging.specs.Tallies.{leaf_size, stem_size, fork_size};
 use super::reckoning::Reckoning;
 
 // A record's number of nodes and its height, a leaf having height 0.
-#[derive(Clone, Copy)]
+#[derive(Clone, Copy, Debug, PartialEq, Eq)]
 pub struct Size {
     pub nodes: u64,
     pub height: u64,

@@ -23,22 +23,15 @@ fn step<R: Reckoning>(
     ensures steps { Steps (reckoned (R.Reckoning.at_leaf reckoning.now) (R.Reckoning.at_stem reckoning.now) (R.Reckoning.at_fork reckoning.now)) (list_of kinds.now) at kind (length stack.old.slots.now) (live stack.old.len stack.old.slots.now) (live stack.new.len stack.new.slots.now) result }
     ensures room { length stack.new.slots.now ≡ length stack.old.slots.now }
 {
-    match kinds.rank(kind) {
-        None => Err(Refusal::NoKind(at)),
-        Some(0) => stack.push(reckoning.leaf(kind)),
-        Some(1) => {
-            let Some(a) = stack.pop() else {
-                return Err(Refusal::TooFewParts(at));
-            };
+    match kinds.rank(kind).ok_or(Refusal::NoKind(at))? {
+        0 => stack.push(reckoning.leaf(kind)),
+        1 => {
+            let a = stack.pop().ok_or(Refusal::TooFewParts(at))?;
             stack.push(reckoning.stem(kind, a))
         }
-        Some(_) => {
-            let Some(b) = stack.pop() else {
-                return Err(Refusal::TooFewParts(at));
-            };
-            let Some(a) = stack.pop() else {
-                return Err(Refusal::TooFewParts(at));
-            };
+        _ => {
+            let b = stack.pop().ok_or(Refusal::TooFewParts(at))?;
+            let a = stack.pop().ok_or(Refusal::TooFewParts(at))?;
             stack.push(reckoning.fork(kind, a, b))
         }
     }
@@ -57,10 +50,7 @@ pub(crate) fn work<R: Reckoning>(
     for (at, kind) in bytes.iter().enumerate() {
         step(reckoning, kinds, &mut stack, *kind, at)?;
     }
-    match stack.pop() {
-        Some(value) => Ok(value),
-        None => Err(Refusal::SeveralParts(bytes.len())),
-    }
+    stack.pop().ok_or(Refusal::SeveralParts(bytes.len()))
 }
 
 // Reckons a record's value: 13 where there are fewer slots than nodes.
@@ -76,6 +66,5 @@ pub fn walk<R: Reckoning>(
     if slots.len() < need {
         return Err(Refusal::BufferTooShort(need));
     }
-    let kinds = record.kinds();
-    work(reckoning, &kinds, record.bytes(), slots)
+    work(reckoning, &record.kinds(), record.bytes(), slots)
 }

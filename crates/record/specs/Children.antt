@@ -1,7 +1,9 @@
 -- The children of a record's root, and where they stand in its bytes.
-use Rattle.std.specs.Prelude.{ℕ, zero, suc, ◌+◌, List, [], ◌∷◌, Some, None, Option, slice_index_or}
+use Rattle.std.specs.Prelude.{◌≡◌, ℕ, zero, suc, ◌+◌, List, [], ◌∷◌, take, drop, Some, None, Option, slice_index_or}
 use Rattle.ruling.specs.Trees.{Tree, leaf, stem, fork, node_count}
 use Rattle.record.specs.declared.children.Span.{Span}
+use Rattle.record.specs.declared.record.Record.{Record}
+use Rattle.record.specs.Held.{bytes_of, tree_of}
 
 abbrev pub root_kind : Tree → ℕ
 root_kind (leaf k) = k
@@ -27,3 +29,12 @@ span_in from (t ∷ ts) (suc n) = span_in (from + node_count t) ts n
 -- Where the child of this number stands in the record's own bytes; none where there is no such child.
 abbrev pub child_span : Tree → ℕ → Option Span
 child_span t n = span_in 0 (children_of t) n
+
+-- The record `child` is the child of this number of the record r, a part of its bytes, under the same kind list.
+pub record ChildOf (r : Record) (n : ℕ) (child : Record) : Type 0 where
+  pub span : Span
+  pub found : Some span ≡ child_span (tree_of r) n
+  pub tree : tree_of child ≡ child_tree (tree_of r) n
+  pub bytes : bytes_of child ≡ take span.len (drop span.start (bytes_of r))
+  pub kinds : child.kinds ≡ r.kinds
+  pub place : child.place ≡ r.place + span.start

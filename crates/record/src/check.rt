@@ -15,7 +15,7 @@ pub const MAX_NODES: usize = 4096;
 fn check_length(bytes: &[u8], limit: usize) -> Result<(), Refusal>
     ensures { Answers (length_fault (length bytes.now) limit) (λ _. (0 < length bytes.now) × (length bytes.now ≤ limit)) result }
 {
-    if bytes.len() == 0 {
+    if bytes.is_empty() {
         return Err(Refusal::RecordLength(0));
     }
     if bytes.len() > limit {

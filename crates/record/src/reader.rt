@@ -6,7 +6,7 @@ ghost use Rattle.record.specs.Counting.{node_fault};
 use ruling::{Kinds, Refusal};
 
 // What stands while a record is read: the number of parts.
-#[derive(Clone, Copy)]
+#[derive(Clone, Copy, Debug)]
 pub(crate) struct Reader {
     standing: usize,
 }
@@ -31,10 +31,7 @@ impl Reader {
         ensures answer { Answers (node_fault (list_of kinds.now) at self.old.standing byte) (λ _. self.new.standing + slice_index (list_of kinds.now) byte ≡ self.old.standing + 1) result }
         ensures kept { Kept result self.old self.new }
     {
-        let Some(rank) = kinds.rank(byte) else {
-            return Err(Refusal::NoKind(at));
-        };
-        let need = rank as usize;
+        let need = kinds.rank(byte).ok_or(Refusal::NoKind(at))? as usize;
         if self.standing < need {
             return Err(Refusal::TooFewParts(at));
         }

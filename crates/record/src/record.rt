@@ -7,7 +7,7 @@ use ruling::Kinds;
 
 // A checked record: a part of the caller's bytes that was found to be one record of at most 4,096 nodes.
 // It keeps the kind list that it was read under, and where it begins in the caller's bytes.
-#[derive(Clone, Copy)]
+#[derive(Clone, Copy, Debug, PartialEq, Eq)]
 pub struct Record<'a> {
     pub(super) bytes: &'a [u8],
     pub(super) place: usize,

@@ -1,8 +1,9 @@
 -- Kind lists, rank by rank.
-use Rattle.std.proofs.Common.{◌≡◌, ℕ, suc, ◌+◌, ◌<◌, ◌≤◌, max, Bool, true, false, cond, not, ◌&&◌, eqb, ltb, List, [], ◌∷◌, length, get_or, take, is_some, Some, None, Ok, Err, Option, Result, sym, refl, ap, ◌∙◌, ap₂, arith, length-take-le, get_or-take, ltb-false, ltb-true, le-ltb, lt-ltb, eq-eqb, ne_eqb, eqb-true, le-leb}
+use Rattle.std.proofs.Common.{◌≡◌, ℕ, suc, ◌+◌, ◌<◌, ◌≤◌, max, Bool, true, false, cond, not, ◌&&◌, eqb, ltb, List, [], ◌∷◌, length, get_or, take, is_some, Some, None, Ok, Err, Option, Result, sym, refl, ap, ◌∙◌, ap₂, subst, arith, length-take-le, get_or-take, ltb-false, ltb-true, le-ltb, lt-ltb, eq-eqb, eqb-true, le-leb}
 use native.Mathlib.Decide.{dec_lt}
 use native.Mathlib.Nat.{le-max_left, le-max_right}
-use Rattle.std.specs.Option.{option_map}
+use Rattle.std.specs.Option.{MatchOption, option_map}
+use Rattle.std.specs.List.{IsAnyAnswer}
 use Rattle.ruling.specs.declared.refusal.Refusal.{Refusal}
 use Rattle.ruling.specs.declared.refusal.Refusal.TheVariants.{KindCount, RankAbove}
 use Rattle.ruling.specs.Questions.{rank_in}
@@ -30,10 +31,6 @@ a_rank ks k r e = go (ltb k (length ks)) refl e
     go true p f = (ltb-true k (length ks) p, (cc))
     go false p f = let z : ◌≡◌ {A = ℕ} 0 1 = cc in absurd (omega arith)
 
-pub above_at : (ks : List ℕ) (i : ℕ) → i < length ks → ((k : ℕ) → k < i → get_or ks k 0 ≤ 2) → 2 < get_or ks i 0 → rank_fault ks ≡ Some (RankAbove i)
-above_at ks i l h g = ap (option_map (λ k. RankAbove k)) (lowest_at (λ k. ltb 2 (get_or ks k 0)) 0 (length ks) i (omega arith) (omega arith)
-    (lt-ltb 2 (get_or ks i 0) g) (λ j _ u. le-ltb 2 (get_or ks j 0) (h j u)))
-
 pub none_above : (ks : List ℕ) → Ranks ks → rank_fault ks ≡ None
 none_above ks h = ap (option_map (λ k. RankAbove k)) (lowest_none (λ k. ltb 2 (get_or ks k 0)) 0 (length ks)
     (λ i _ u. le-ltb 2 (get_or ks i 0) (h i (omega arith))))
@@ -45,13 +42,13 @@ small_ranks ks e = go (lowest (λ k. ltb 2 (get_or ks k 0)) 0 (length ks)) refl 
     go None p f = λ k l. ltb-false 2 (get_or ks k 0) (none_lowest (λ k. ltb 2 (get_or ks k 0)) 0 (length ks) p k (omega arith) (omega arith))
     go (Some i) p f = let z : ◌≡◌ {A = ℕ} 0 1 = cc in absurd (omega arith)
 
-pub leaf_at : (ks : List ℕ) (i : ℕ) → i < length ks → ((k : ℕ) → k < i → 0 < get_or ks k 0) → get_or ks i 0 ≡ 0 → has_leaf ks ≡ true
-leaf_at ks i l h e = ap is_some (lowest_at (λ k. eqb (get_or ks k 0) 0) 0 (length ks) i (omega arith) (omega arith)
-    (eq-eqb (get_or ks i 0) 0 e) (λ j _ u. ne_eqb (get_or ks j 0) 0 (λ z. let w = h j u in omega arith)))
-
-pub no_leaf : (ks : List ℕ) → ((k : ℕ) → k < length ks → 0 < get_or ks k 0) → has_leaf ks ≡ false
-no_leaf ks h = ap is_some (lowest_none (λ k. eqb (get_or ks k 0) 0) 0 (length ks)
-    (λ i _ u. ne_eqb (get_or ks i 0) 0 (λ z. let w = h i (omega arith) in omega arith)))
+pub leaf_found : (ks : List ℕ) (b : Bool) → IsAnyAnswer (λ x a. eqb x 0 ≡ a) ks b → has_leaf ks ≡ b
+leaf_found ks true h = go (lowest (λ k. eqb (get_or ks k 0) 0) 0 (length ks)) refl
+  where
+    go : (o : Option ℕ) → lowest (λ k. eqb (get_or ks k 0) 0) 0 (length ks) ≡ o → is_some o ≡ true
+    go (Some i) p = refl
+    go None p = sym (none_lowest (λ k. eqb (get_or ks k 0) 0) 0 (length ks) p h.0 (omega arith) (omega (arith, h.1))) ∙ h.2 0
+leaf_found ks false h = ap is_some (lowest_none (λ k. eqb (get_or ks k 0) 0) 0 (length ks) (λ i _ u. h i 0 (omega arith) (omega arith)))
 
 -- the first ranks of an array are a list, where they are its ranks
 pub front : (ks xs : List ℕ) (n : ℕ) → n ≡ length ks → n ≤ length xs → ((k : ℕ) → k < n → get_or xs k 0 ≡ get_or ks k 0) → take n xs ≡ ks
@@ -120,6 +117,16 @@ differ_at ks ls i e h = lowest_at (λ k. not (same_rank (rank_in ks k) (rank_in 
         let q = beyond ls (omega arith) in
         let r : same_rank None None ≡ false = ap₂ same_rank (sym p) (sym q) ∙ e in
         let z : ◌≡◌ {A = ℕ} 0 1 = cc in absurd (omega arith)
+
+-- what a search over 16 kinds finds
+pub differ_first : (ks ls : List ℕ) → length ks ≤ 16 → length ls ≤ 16 → (r : Option ℕ)
+    → MatchOption r ((k : ℕ) → 0 ≤ k → k < 16 → same_rank (rank_in ks k) (rank_in ls k) ≡ true)
+    (λ i. (0 ≤ i) × (i < 16) × (same_rank (rank_in ks i) (rank_in ls i) ≡ false)
+    × ((k : ℕ) → 0 ≤ k → k < i → same_rank (rank_in ks k) (rank_in ls k) ≡ true))
+    → (differing ks ls ≡ r) × (r ≡ None → ks ≡ ls)
+differ_first ks ls a b None h =
+    let e = lists_same ks ls a b (λ k l. h k (omega arith) l) in (subst (λ zs. differing ks zs ≡ None) e (same_kinds ks), λ _. e)
+differ_first ks ls a b (Some i) h = (differ_at ks ls i h.2 (λ k l. h.3 k (omega arith) l), λ e. let z : ◌≡◌ {A = ℕ} 0 1 = cc in absurd (omega arith))
 
 -- with 1 to 16 kinds, only the ranks can be at fault
 pub few_kinds : (ks : List ℕ) → 0 < length ks → length ks ≤ 16 → count_fault ks ≡ None

@@ -1,5 +1,7 @@
 -- The lowest number at which a test holds.
-use Rattle.std.proofs.Common.{◌≡◌, ℕ, zero, suc, ◌+◌, ◌<◌, ◌≤◌, Bool, true, false, cond, Some, None, sym, refl, ap, ◌∙◌, ap₂, arith}
+use Rattle.std.proofs.Common.{◌≡◌, ℕ, zero, suc, ◌+◌, ◌<◌, ◌≤◌, Bool, true, false, cond, List, length, get_or, Some, None, Option, sym, refl, ap, ◌∙◌, ap₂, arith}
+use Rattle.std.specs.List.{AllWithin, HoldsAt}
+use Rattle.std.specs.Option.{MatchOption}
 use native.Mathlib.Decide.{ℕ_discrete}
 use Rattle.ruling.specs.Checks.{lowest}
 
@@ -18,6 +20,14 @@ lowest_at P from (suc c) i l u p h = go (ℕ_discrete from i) (λ n. lowest_at P
     go : Dec (from ≡ i) → (¬ (from ≡ i) → lowest P (suc from) c ≡ Some i) → lowest P from (suc c) ≡ Some i
     go (yes e) rest = ap (λ b. cond b (Some from) (lowest P (suc from) c)) (ap P e ∙ p) ∙ ap (λ (x : ℕ). Some x) e
     go (no n) rest = ap₂ (λ b o. cond b (Some from) o) (h from (omega arith) (omega arith)) (rest n)
+
+-- what a search over a list finds
+pub lowest_first : (test : ℕ → Bool) (xs : List ℕ) (r : Option ℕ)
+    → MatchOption r (AllWithin (λ x. test x ≡ false) xs 0 (length xs))
+    (λ i. (i < length xs) × HoldsAt (λ x. test x ≡ true) xs i × AllWithin (λ x. test x ≡ false) xs 0 i)
+    → r ≡ lowest (λ k. test (get_or xs k 0)) 0 (length xs)
+lowest_first test xs None h = sym (lowest_none (λ k. test (get_or xs k 0)) 0 (length xs) (λ i l u. h i 0 l (omega arith)))
+lowest_first test xs (Some i) h = sym (lowest_at (λ k. test (get_or xs k 0)) 0 (length xs) i (omega arith) (omega (arith, h.0)) (h.1 0) (λ j l u. h.2 j 0 l u))
 
 -- where none is found, none passes
 pub none_lowest : (P : ℕ → Bool) (from c : ℕ) → lowest P from c ≡ None → (i : ℕ) → from ≤ i → i < from + c → P i ≡ false

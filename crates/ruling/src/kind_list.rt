@@ -1,33 +1,34 @@
-ghost use Rattle.std.specs.Prelude.{◌≡◌, ℕ, ◌<◌, ◌≤◌, length, take, None, slice_index};
+ghost use Rattle.std.specs.Prelude.{◌≡◌, ℕ, ◌<◌, ◌≤◌, length, nat_lt, slice_index};
+ghost use Rattle.std.specs.Option.{unwrap_or};
 ghost use Rattle.ruling.specs.Questions.{rank_in};
-ghost use Rattle.ruling.specs.Checks.{Answers};
+ghost use Rattle.ruling.specs.Checks.{lowest, Answers};
 ghost use Rattle.ruling.specs.KindLists.{KindList, has_leaf, list_fault, rank_fault, leaf_fault, opening_fault};
 ghost use Rattle.ruling.specs.Listed.{list_of};
 
 use super::kinds::Kinds;
 use super::refusal::Refusal;
 
-// Fault 2: the lowest kind with a rank above 2.
+// The lowest kind with a rank above 2.
+fn first_above(ranks: &[u8]) -> Option<usize>
+    ensures { result ≡ lowest (λ k. nat_lt 2 (slice_index ranks.now k)) 0 (length ranks.now) }
+{
+    ranks.iter().position(|rank| *rank > 2)
+}
+
+// Fault 2: a rank above 2.
 fn check_small(ranks: &[u8]) -> Result<(), Refusal>
     ensures { Answers (rank_fault ranks.now) (λ _. Unit {0}) result }
 {
-    for (kind, rank) in ranks.iter().enumerate() {
-        if *rank > 2 {
-            return Err(Refusal::RankAbove(kind));
-        }
+    match first_above(ranks) {
+        Some(kind) => Err(Refusal::RankAbove(kind)),
+        None => Ok(()),
     }
-    Ok(())
 }
 
 fn has_leaf(ranks: &[u8]) -> bool
     ensures { result ≡ has_leaf ranks.now }
 {
-    for rank in ranks {
-        if *rank == 0 {
-            return true;
-        }
-    }
-    false
+    ranks.contains(&0)
 }
 
 // Whether these ranks are a kind list: 1, then 2.
@@ -60,18 +61,30 @@ pub fn check_opening(ranks: &[u8]) -> Result<(), Refusal>
     check_leaf_kind(ranks)
 }
 
-// The ranks at the front of an array of 16, with zeros behind.
-fn filled(ranks: &[u8]) -> [u8; 16]
-    requires { length ranks.now ≤ 16 }
-    ensures front { take (length ranks.now) result ≡ ranks.now }
-    ensures same { (k : ℕ) → k < length ranks.now → slice_index result k ≡ slice_index ranks.now k }
+// The rank of a kind; none where there is no such kind.
+fn rank_at(ranks: &[u8], kind: usize) -> Option<u8>
+    ensures { result ≡ rank_in ranks.now kind }
 {
-    let mut all = [0; 16];
-    for kind in 0..ranks.len() {
-        let rank = ranks[kind];
-        all[kind] = rank;
+    ranks.get(kind).copied()
+}
+
+// The ranks, with zeros behind.
+pub fn padded(ranks: &[u8]) -> [u8; 16]
+    ensures { (k : ℕ) → k < 16 → slice_index result k ≡ unwrap_or (rank_in ranks.now k) 0 }
+{
+    std::array::from_fn(|kind| rank_at(ranks, kind).unwrap_or(0))
+}
+
+// The kind list of these ranks, checked: 1, then 2.
+impl TryFrom<&[u8]> for Kinds {
+    type Error = Refusal;
+
+    ghost try_from_gives = { λ ranks. Answers (list_fault ranks.now) (λ kinds. list_of kinds ≡ ranks.now) };
+
+    fn try_from(ranks: &[u8]) -> Result<Kinds, Refusal> {
+        check_ranks(ranks)?;
+        Ok(Kinds::make(ranks))
     }
-    all
 }
 
 impl Kinds {
@@ -80,25 +93,30 @@ impl Kinds {
         requires { KindList ranks.now }
         ensures { list_of result ≡ ranks.now }
     {
-        let all = filled(ranks);
-        let count = ranks.len() as u8;
-        Kinds { count, ranks: all }
+        Kinds {
+            count: ranks.len() as u8,
+            ranks: padded(ranks),
+        }
+    }
+
+    // The ranks, that of kind 0 first.
+    fn ranks(&self) -> &[u8]
+        ensures { result.now ≡ list_of self.now }
+    {
+        &self.ranks[..self.count as usize]
     }
 
     // The number of kinds.
     pub fn len(&self) -> usize
         ensures { result ≡ length (list_of self.now) }
     {
-        self.count as usize
+        self.ranks().len()
     }
 
     // The rank of a kind; none where there is no such kind.
     pub fn rank(&self, kind: u8) -> Option<u8>
         ensures { result ≡ rank_in (list_of self.now) kind }
     {
-        if kind >= self.count {
-            return None;
-        }
-        Some(self.ranks[kind as usize])
+        rank_at(self.ranks(), kind as usize)
     }
 }

@@ -14,6 +14,6 @@ returns g c =
     let o = subst (λ ks. Over ks (tree_of r)) (sym c.requires) (is_written (kinds_of r) (bytes_of r) r.read).over in
     record {
       answer = walked_then _ _ _ _ _ _ c.in_ok-state.ensures.answer (λ q.
-          c.is_marked.ensures ∙ ap (λ (s : ℕ). unwrap_or (marked m.plain s) false) q ∙ accepted m (tree_of r) o);
+          c.unwrap_or.ensures ∙ ap (λ m. unwrap_or m false) c.mark.ensures ∙ ap (λ (s : ℕ). unwrap_or (marked m.plain s) false) q ∙ accepted m (tree_of r) o);
       kept = tt;
     }

@@ -16,7 +16,7 @@ returns g c =
     let f = few_held (kinds_of r) (bytes_of r) r.read in
     let same = ap length c.bytes.ensures in
     let room : node_count (tree_of r) ≤ length c.args.slots.now = omega arith in
-    let whole = ap₂ (λ (ks bs : List ℕ). read_from ks 0 [] bs) (ap list_of c.kinds-kinds.ensures) c.bytes.ensures
+    let whole = ap₂ (λ (ks bs : List ℕ). read_from ks 0 [] bs) (ap list_of c.kinds.ensures) c.bytes.ensures
     ∙ (sym (within (kinds_of r) 4096 (bytes_of r) s f) ∙ is_read (kinds_of r) (bytes_of r) r.read) in
     let e = c.work.ensures (tree_of r) whole (omega arith) in
     record { answer = walk_ok _ _ _ _ room e; kept = ok_kept _ _ _ _ e }

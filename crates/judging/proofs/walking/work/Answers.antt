@@ -1,6 +1,6 @@
-use Rattle.std.proofs.Common.{◌≤◌, length, Ok, ap, ◌∙◌, arith}
+use Rattle.std.proofs.Common.{◌≤◌, length, ap, ◌∙◌, arith}
 use Rattle.ruling.specs.Listed.{list_of}
-use Rattle.judging.proofs.Walks.{work_more, work_end, work_goes, top_is, no_top}
+use Rattle.judging.proofs.Walks.{work_more, work_end, work_goes, popped}
 use Rattle.judging.proofs.walking.work.Goals as goal
 
 pub returns-in_err-step : goal.returns-in_err-step
@@ -19,18 +19,10 @@ loop-at-preserved g c =
           (work_more _ (list_of c.args.kinds.now) c.args.bytes.now t c.loop-at.at _ _ _ _ c.step.ensures.steps c.loop-at-test.true room (inv.1 t e room)).1,
     )
 
-pub returns-in-Some : goal.returns-in-Some
-returns-in-Some g c = λ t e l.
+pub returns : goal.returns
+returns g c = λ t e l.
     let new = ap length c.new-stack.ensures.slots in
     let inv = c.loop-at.invariant in
     let room : length c.args.bytes.now ≤ length c.loop-at.stack.slots.now = omega arith in
     let w = work_end _ (list_of c.args.kinds.now) c.args.bytes.now t c.loop-at.at _ (omega arith) (inv.1 t e room) in
-    ap (λ v. Ok v) (top_is _ _ _ _ w c.in-Some.ensures.answer)
-
-pub returns-in-None : goal.returns-in-None
-returns-in-None g c = λ t e l.
-    let new = ap length c.new-stack.ensures.slots in
-    let inv = c.loop-at.invariant in
-    let room : length c.args.bytes.now ≤ length c.loop-at.stack.slots.now = omega arith in
-    let w = work_end _ (list_of c.args.kinds.now) c.args.bytes.now t c.loop-at.at _ (omega arith) (inv.1 t e room) in
-    absurd (no_top _ _ w c.in-None.ensures.answer.0)
+    c.ok_or.ensures.value ∙ popped _ _ _ _ _ w c.pop.ensures.answer

@@ -2,8 +2,8 @@ use Rattle.std.proofs.Common.{arith}
 use Rattle.record.proofs.HeldChild.{part, part_one, part_tree, part_bytes, part_length}
 use Rattle.record.proofs.record.Record.part.Goals as goal
 
-pub overflow_add-end : goal.overflow_add-end
-overflow_add-end c =
+pub overflow_add-result : goal.overflow_add-result
+overflow_add-result c =
     let i = (part c.args.self.now c.args.number c.args.span c.requires).inside in
     let e = c.args.self.now.ends in
     omega arith
