@@ -1,12 +1,13 @@
-use Rattle.std.proofs.Common.{arith}
+use Rattle.std.proofs.Common.{ℕ, zero, suc, ◌≤◌, ◌^◌, arith, refl}
+use Rattle.std.proofs.Math.Nat.{mul-le-mul}
 use Rattle.table.specs.FileRuled.{pow_0, pow_1, pow_2}
 use Rattle.table.proofs.directory.cell_count.Goals as goal
 
-pub returns-in-0 : goal.returns-in-0
-returns-in-0 c = pow_0 c.args.states c.args.rank (omega arith)
+few : (n r : ℕ) → n ≤ 32 → r ≤ 2 → n ^ r ≤ 1024
+few n zero a b = let w = pow_0 n 0 refl in omega arith
+few n (suc zero) a b = let w = pow_1 n 1 refl in omega arith
+few n (suc (suc zero)) a b = let w = pow_2 n 2 refl in let v = mul-le-mul a a in omega arith
+few n (suc (suc (suc r))) a b = absurd (omega arith)
 
-pub returns-in-1 : goal.returns-in-1
-returns-in-1 c = pow_1 c.args.states c.args.rank (omega arith)
-
-pub returns-in_default : goal.returns-in_default
-returns-in_default c = pow_2 c.args.states c.args.rank (omega arith)
+pub pow-requires : goal.pow-requires
+pow-requires c = let w = few c.args.states c.args.rank c.requires.0 c.requires.1 in omega arith
