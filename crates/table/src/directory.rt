@@ -25,9 +25,10 @@ fn read_word(bytes: &[u8], at: usize) -> usize
 }
 
 // The number of cells of a kind of this rank.
-fn cell_count(states: usize, rank: u8) -> usize
+pub fn cell_count(states: usize, rank: u8) -> usize
     requires { (states ≤ 32) × (rank ≤ 2) }
-    ensures { result ≡ states ^ rank }
+    ensures value { result ≡ states ^ rank }
+    ensures few { result ≤ 1024 }
 {
     states.pow(rank as u32)
 }

@@ -9,4 +9,5 @@ mod head;
 mod part;
 
 pub use check::check_table;
+pub use directory::cell_count;
 pub use flat_table::FlatTable;
