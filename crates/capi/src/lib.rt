@@ -7,17 +7,19 @@ ghost use Rattle.capi.specs.Codes.{code_of, file_verdict};
 use judging::judge_bytes;
 use record::MAX_NODES;
 use ruling::Refusal;
-use table::{FlatTable, check_table};
+use table::FlatTable;
 
 // The stack is as long as the longest record, so it is never too short.
+#[tactic(auto, using(crate::proofs::Verdicts::long_enough))]
 fn verdict(table: &[u8], bytes: &[u8]) -> Result<bool, Refusal>
     ensures { result ≡ file_verdict table.now bytes.now }
 {
-    let states = check_table(table)?;
+    let ruling = FlatTable::read(table)?;
     let mut slots = [0u16; MAX_NODES];
-    judge_bytes(&FlatTable::make(table, states), bytes, &mut slots)
+    judge_bytes(&ruling, bytes, &mut slots)
 }
 
+// Minus the number of a refusal, for C.
 fn code(verdict: Result<bool, Refusal>) -> i32
     ensures { result ≡ code_of verdict }
 {

@@ -1,5 +1,5 @@
 -- Rows, joined blocks and the directory of a file, one more at a time and read at a place.
-use Rattle.std.proofs.Common.{◌≡◌, ℕ, zero, suc, ◌+◌, ◌-◌, ◌*◌, ◌/◌, ◌%◌, ◌^◌, ◌<◌, ◌≤◌, cond, leb, List, [], ◌∷◌, ◌++◌, length, get_or, take, sym, refl, ap, ◌∙◌, subst, ap₂, append_assoc, append-nil, add-zero, zero-add, mul-suc, add-one, arith, length-append}
+use Rattle.std.proofs.Common.{◌≡◌, ℕ, zero, suc, ◌+◌, ◌-◌, ◌*◌, ◌/◌, ◌%◌, ◌^◌, ◌<◌, ◌≤◌, cond, leb, List, [], ◌∷◌, ◌++◌, length, get_or, take, sym, refl, ap, ◌∙◌, subst, ap₂, append_assoc, append-nil, add-zero, zero-add, mul-suc, arith, length-append}
 use native.Mathlib.Decide.{dec_lt}
 use Rattle.std.proofs.lemmas.List.{take_more, get_or_append_left, get_or-append-add, get_or-append_right}
 use Rattle.ruling.specs.Meanings.{Fits, none, one, two}
@@ -7,14 +7,6 @@ use Rattle.ruling.specs.Written.{row, joined, low_high, block, directory}
 use Rattle.ruling.proofs.Rows.{row_length, row_at, grid_length, grid_at}
 use Rattle.table.specs.TableFiles.{cell_number}
 use Rattle.table.specs.FileRuled.{pow_0, pow_1, pow_2}
-
--- rows
-row_suc : {A : Type 0} (n : ℕ) (f : ℕ → A) → row (suc n) f ≡ row n f ++ (f n ∷ [])
-row_suc zero f = refl
-row_suc (suc n) f = ap (λ xs. f 0 ∷ xs) (row_suc n (λ i. f (suc i)))
-
-pub row_more : {A : Type 0} (n : ℕ) (f : ℕ → A) → row (n + 1) f ≡ row n f ++ (f n ∷ [])
-row_more n f = ap (λ k. row k f) (add-one n) ∙ row_suc n f
 
 -- joined lists
 pub joined_more : (bs : List (List ℕ)) (b : List ℕ) → joined (bs ++ (b ∷ [])) ≡ joined bs ++ b
@@ -32,9 +24,6 @@ joined_within (b ∷ bs) (suc j) l =
     let r = joined_within bs j (omega arith) in
     let e = length-append b (joined bs) in
     let g = length-append b (joined (take j bs)) in omega arith
-
-pub row_joined : (n : ℕ) (f : ℕ → List ℕ) → joined (row (n + 1) f) ≡ joined (row n f) ++ f n
-row_joined n f = ap joined (row_more n f) ∙ joined_more (row n f) (f n)
 
 -- a block as rows: of so many first children, each with so many second ones
 singles : (n : ℕ) (f : ℕ → ℕ) → joined (row n (λ a. f a ∷ [])) ≡ row n f

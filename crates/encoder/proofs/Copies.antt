@@ -1,5 +1,5 @@
 -- A table that holds the answers of what is meant means it, and is the same table as a ruling with these answers.
-use Rattle.std.proofs.Common.{◌≡◌, ℕ, ◌/◌, ◌%◌, ◌<◌, ◌≤◌, Bool, true, false, cond, ◌&&◌, ltb, List, length, get_or, is_ok, Some, None, Ok, Err, Result, unwrap_or, sym, refl, ap, ◌∙◌, subst, ap₂, arith}
+use Rattle.std.proofs.Common.{◌≡◌, ℕ, ◌<◌, ◌≤◌, Bool, true, false, cond, ◌&&◌, ltb, List, length, get_or, is_ok, Some, None, Ok, Err, Result, unwrap_or, sym, refl, ap, ◌∙◌, subst, ap₂, arith}
 use Rattle.std.proofs.lemmas.List.{get_or_past}
 use Rattle.std.proofs.lemmas.Bool.{ltb-false}
 use Rattle.ruling.specs.declared.refusal.Refusal.{Refusal}
@@ -34,17 +34,6 @@ leaf_told ks r h = go r (has_leaf ks) h
     go (Ok x) false h = let e = h.0 in let z : ◌≡◌ {A = ℕ} 0 1 = cc in absurd (omega arith)
     go (Err x) true h = let z : ◌≡◌ {A = ℕ} 0 1 = cc in absurd (omega arith)
     go (Err x) false h = refl
-
--- the flat place of a cell, taken apart again
-pub cells_listed : (m : Meaning) (xs : List ℕ)
-    → ((i : ℕ) → i < 16384 → get_or xs i 0 ≡ unwrap_or (targeted m (i / 1024) (i / 32 % 32) (i % 32)) 0)
-    → (k a b : ℕ) → k < 16 → a < 32 → b < 32 → get_or xs (cell_place k a b) 0 ≡ unwrap_or (targeted m k a b) 0
-cells_listed m xs h k a b p q r =
-    let e1 : cell_place k a b / 1024 ≡ k = omega arith in
-    let e2 : cell_place k a b / 32 % 32 ≡ a = omega arith in
-    let e3 : cell_place k a b % 32 ≡ b = omega arith in
-    h (cell_place k a b) (omega arith)
-    ∙ (ap (λ x. unwrap_or (targeted m x (cell_place k a b / 32 % 32) (cell_place k a b % 32)) 0) e1 ∙ ap₂ (λ x y. unwrap_or (targeted m k x y) 0) e2 e3)
 
 -- A table that holds the answers of c means c, and nothing beside.
 module _ (c : Meaning) (t : TableData) (few_kinds : length c.kinds ≤ 16) (few : c.states ≤ 32) (long : length t.ranks ≡ 16) (copy : CopyOf c t) where

@@ -13,9 +13,8 @@ use Rattle.ruling.specs.Written.{row, joined, blocks, directory, mark_byte, body
 use Rattle.table.specs.TableFiles.{byte_at, ranks_in, rank_at, mark_place, pair_place, offset_at, length_at, cell_number, cell_at, TableFile, missing_from, missing, led, file_meaning}
 use Rattle.encoder.specs.Encodings.{Tabled, FilesRead}
 use Rattle.table.specs.Faults.{file_faultless}
-use Rattle.table.specs.FileRuled.{fits_kind, fits_below, cell_inside}
+use Rattle.table.specs.FileRuled.{fits_kind, fits_below, cell_inside, power_few}
 use Rattle.encoder.proofs.Blocks.{block_length, block_at, block_below, joined_take, joined_at, joined_few, past_four, pair_offset, pair_length}
-use Rattle.encoder.proofs.Held.{power_few}
 
 -- the blocks of a meaning, its marks and its directory
 abbrev pub blocks_of : Meaning → List (List ℕ)
@@ -106,7 +105,7 @@ module _ (m : Meaning) (t : Tabled m) where
       subst (λ xs. get_or xs c 0 < m.states) (sym e)
       (block_below m.kinds m.states k c (m.target k) l (λ a b w. t.complete k a b w) (get_or m.kinds k 0) refl (subst (λ xs. c < length xs) e u))
 
-  all_length : length (joined (blocks_of m)) ≤ 1024 * length m.kinds
+  pub all_length : length (joined (blocks_of m)) ≤ 1024 * length m.kinds
   all_length =
       let b = blocks_length m.states m.kinds m.target in
       let w = joined_few (blocks_of m) 1024 (λ j l. let v : j < length m.kinds = omega arith in

@@ -1,13 +1,12 @@
 -- The blocks of a table in memory.
-use Rattle.std.proofs.Common.{◌≡◌, ℕ, zero, suc, ◌+◌, ◌*◌, ◌^◌, ◌<◌, ◌≤◌, Bool, true, false, cond, leb, [], length, get_or, sym, refl, ap, ◌∙◌, ap₂, mul-le-mul_right, suc-mul, add-one, arith, get_or-take}
-use Rattle.std.proofs.lemmas.Nat.{mul-le}
+use Rattle.std.proofs.Common.{◌≡◌, ℕ, ◌+◌, ◌*◌, ◌/◌, ◌%◌, ◌^◌, ◌<◌, ◌≤◌, Bool, true, false, cond, leb, [], length, get_or, sym, ap, ◌∙◌, ap₂, arith, get_or-take}
+use Rattle.std.proofs.Math.Nat.{div-lt_iff_lt-mul, mod-add-div', mod-lt}
 use Rattle.ruling.specs.KindLists.{Ranks}
 use Rattle.ruling.specs.Written.{row, joined, block}
 use Rattle.encoder.specs.declared.table_data.TableData.{TableData}
 use Rattle.encoder.specs.Tables.{kinds_held, table_meaning}
 use Rattle.encoder.specs.Encodings.{table_blocks}
-use Rattle.table.specs.FileRuled.{pow_0, pow_1, pow_2}
-use Rattle.ruling.proofs.Rows.{grid_length, blocks_length, blocks_at}
+use Rattle.ruling.proofs.Rows.{grid_length, grid_at, blocks_length, blocks_at}
 use Rattle.encoder.proofs.Blocks.{block_grid, block_length}
 
 pub span_few : (b : Bool) (n : ℕ) → n ≤ 32 → cond b n 1 ≤ 32
@@ -41,16 +40,15 @@ module _ (t : TableData) (counted : length (kinds_held t) ≡ t.count) where
     pub block_size : p * q ≡ length (get_or (table_blocks t) k [])
     block_size = sym (grid_length p q ((table_meaning t).target k)) ∙ ap length block_rows
 
--- a row fits where the whole does
-pub row_fits : (a p q : ℕ) → a < p → a * q + q ≤ p * q
-row_fits a p q l = let w = mul-le-mul_right q l in let v = suc-mul a q in omega arith
+    -- a cell's place, taken apart into the two children
+    module _ (i : ℕ) (u : i < length (get_or (table_blocks t) k [])) (z : 0 < q) where
+      pub first_below : i / q < p
+      first_below = let s = block_size in (div-lt_iff_lt-mul z).1 (omega arith)
 
-pub row_after : (a q : ℕ) → (a + 1) * q ≡ a * q + q
-row_after a q = ap (λ x. x * q) (add-one a) ∙ suc-mul a q
-
--- a block has at most 1,024 cells
-pub power_few : (n r : ℕ) → n ≤ 32 → r ≤ 2 → n ^ r ≤ 1024
-power_few n zero l u = let e = pow_0 n 0 refl in omega arith
-power_few n (suc zero) l u = let e = pow_1 n 1 refl in omega arith
-power_few n (suc (suc zero)) l u = let e = pow_2 n 2 refl in let m = mul-le n n 32 32 l l in omega arith
-power_few n (suc (suc (suc r))) l u = absurd (omega arith)
+      pub cell_at : get_or (get_or (table_blocks t) k []) i 0 ≡ (table_meaning t).target k (i / q) (i % q)
+      cell_at =
+          let f = (table_meaning t).target k in
+          let e = mod-add-div' i q in
+          let c : i / q * q + i % q ≡ i = omega arith in
+          sym (ap (λ xs. get_or xs i 0) block_rows) ∙ (sym (ap (λ j. get_or (joined (row p (λ a. row q (λ b. f a b)))) j 0) c)
+          ∙ grid_at p q (i / q) (i % q) f first_below (mod-lt i z))

@@ -1,5 +1,7 @@
 pub mod Copies
-pub mod Writing
+pub mod FromFn
 pub mod Blocks
 pub mod Held
+pub mod Parts
+pub mod Encoded
 pub mod FileLayout

@@ -1,5 +1,5 @@
 -- A table written as a file.
-use Rattle.std.specs.Prelude.{◌≡◌, ℕ, ◌+◌, ◌<◌, ◌≤◌, true, cond, List, ◌++◌, length, take, drop, Some, None, Option, nat_lt}
+use Rattle.std.specs.Prelude.{◌≡◌, ℕ, ◌<◌, ◌≤◌, true, cond, List, Some, None, Option, nat_lt}
 use Rattle.ruling.specs.declared.refusal.Refusal.{Refusal}
 use Rattle.ruling.specs.declared.refusal.Refusal.TheVariants.{BufferTooShort}
 use Rattle.ruling.specs.KindLists.{KindList, has_leaf}
@@ -19,12 +19,6 @@ table_blocks t = blocks (table_meaning t).states (table_meaning t).kinds (table_
 -- Fault 13: there is less room than is needed.
 abbrev pub room_fault : ℕ → ℕ → Option Refusal
 room_fault need room = cond (nat_lt room need) (Some (BufferTooShort need)) None
-
--- These bytes are written from `at` on, up to `to`; what stood before and after them is as it was.
-pub record Wrote (before : List ℕ) (at : ℕ) (bytes after : List ℕ) (to : ℕ) : Type 0 where
-  pub place : to ≡ at + length bytes
-  pub front : take to after ≡ take at before ++ bytes
-  pub back : drop to after ≡ drop to before
 
 -- What a table in memory means.
 pub record Tabled (m : Meaning) : Type 0 where

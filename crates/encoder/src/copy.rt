@@ -1,78 +1,44 @@
-ghost use Rattle.std.specs.Prelude.{◌≡◌, ℕ, ◌/◌, ◌%◌, ◌<◌, ◌≤◌, false, length, is_some, IfSome, slice_index, slice_index_or};
+ghost use Rattle.std.specs.Prelude.{◌≡◌, ℕ, ◌/◌, ◌%◌, ◌<◌, ◌≤◌, false, is_some, IfSome, slice_index, slice_index_or};
 ghost use Rattle.std.specs.Option.{unwrap_or};
-ghost use Rattle.ruling.specs.KindLists.{has_leaf};
 ghost use Rattle.ruling.specs.Questions.{rank_in, targeted, marked};
-ghost use Rattle.encoder.specs.Tables.{kinds_held, table_meaning, Equal, tabled, CopyOf};
+ghost use Rattle.encoder.specs.Tables.{table_meaning, Equal, tabled, CopyOf};
 
 use super::places::cell_parts;
 use super::table_data::TableData;
 use super::table_in_memory::Table;
 use ruling::{Ruling, check_leaf_kind, kinds_of};
+use std::array;
 
 const MOST_STATES: u16 = 32;
 
-fn rank_or_zero<R: Ruling>(ruling: &R, kind: u8) -> u8
-    ensures { result ≡ unwrap_or (rank_in (R.Ruling.meaning ruling.now).plain.kinds kind) 0 }
-{
-    match ruling.rank(kind) {
-        Some(rank) => rank,
-        None => 0,
-    }
-}
-
+// The ranks of the kinds, and 0 where there is no kind.
 pub fn ranks_of<R: Ruling>(ruling: &R) -> [u8; 16]
     ensures { (k : ℕ) → k < 16 → slice_index result k ≡ unwrap_or (rank_in (R.Ruling.meaning ruling.now).plain.kinds k) 0 }
 {
-    let mut ranks = [0; 16];
-    for kind in 0..16u8 {
-        let rank = rank_or_zero(ruling, kind);
-        ranks[kind as usize] = rank;
-    }
-    ranks
+    array::from_fn(|kind| ruling.rank(kind as u8).unwrap_or(0))
 }
 
-fn mark_or_no<R: Ruling>(ruling: &R, state: u16) -> bool
-    ensures { result ≡ unwrap_or (marked (R.Ruling.meaning ruling.now).plain state) false }
-{
-    match ruling.mark(state) {
-        Some(mark) => mark,
-        None => false,
-    }
-}
-
+// The marks of the states, and no where there is no state.
 fn marks_of<R: Ruling>(ruling: &R) -> [bool; 32]
     ensures { (s : ℕ) → s < 32 → slice_index_or result s false ≡ unwrap_or (marked (R.Ruling.meaning ruling.now).plain s) false }
 {
-    let mut marks = [false; 32];
-    for state in 0..32u16 {
-        let mark = mark_or_no(ruling, state);
-        marks[state as usize] = mark;
-    }
-    marks
+    array::from_fn(|state| ruling.mark(state as u16).unwrap_or(false))
 }
 
-// The cell at a place.
+// The cell at a place, and 0 where there is no argument list.
 fn cell_or_zero<R: Ruling>(ruling: &R, place: usize) -> u8
     requires { (place < 16384) × ((R.Ruling.meaning ruling.now).plain.states ≤ 32) }
     ensures { result ≡ unwrap_or (targeted (R.Ruling.meaning ruling.now).plain (place / 1024) (place / 32 % 32) (place % 32)) 0 }
 {
     let (kind, a, b) = cell_parts(place);
-    match ruling.target(kind, a, b) {
-        Some(state) => state as u8,
-        None => 0,
-    }
+    ruling.target(kind, a, b).unwrap_or(0) as u8
 }
 
 fn cells_of<R: Ruling>(ruling: &R) -> [u8; 16384]
     requires { (R.Ruling.meaning ruling.now).plain.states ≤ 32 }
     ensures { (i : ℕ) → i < 16384 → slice_index result i ≡ unwrap_or (targeted (R.Ruling.meaning ruling.now).plain (i / 1024) (i / 32 % 32) (i % 32)) 0 }
 {
-    let mut cells = [0; 16384];
-    for place in 0..16384 {
-        let cell = cell_or_zero(ruling, place);
-        cells[place] = cell;
-    }
-    cells
+    array::from_fn(|place| cell_or_zero(ruling, place))
 }
 
 fn data_of<R: Ruling>(ruling: &R) -> TableData
@@ -88,13 +54,6 @@ fn data_of<R: Ruling>(ruling: &R) -> TableData
     }
 }
 
-fn has_leaf(table: &TableData) -> bool
-    requires { table.now.count ≤ 16 }
-    ensures { result ≡ has_leaf (kinds_held table.now) }
-{
-    check_leaf_kind(&table.ranks[..table.count as usize]).is_ok()
-}
-
 impl Table {
     // The table with the ruling's kinds, states, marks and targets; none where it has more than 32 states or no kind of rank 0.
     pub fn copied<R: Ruling>(ruling: &R) -> Option<Table>
@@ -106,7 +65,7 @@ impl Table {
             return None;
         }
         let inner = data_of(ruling);
-        if !has_leaf(&inner) {
+        if check_leaf_kind(&inner.ranks[..inner.count as usize]).is_err() {
             return None;
         }
         Some(Table { inner })

@@ -2,40 +2,42 @@ ghost use Rattle.std.specs.Prelude.{◌≡◌, ◌≤◌, ◌++◌, length, drop
 ghost use Rattle.ruling.specs.Checks.{Answers, Kept};
 ghost use Rattle.table.specs.TableFiles.{table_fault, file_meaning};
 ghost use Rattle.encoder.specs.Tables.{table_meaning, Equal};
-ghost use Rattle.encoder.specs.Encodings.{Wrote, room_fault, table_bytes, FilesRead};
+ghost use Rattle.encoder.specs.Encodings.{room_fault, table_bytes, FilesRead};
 
-use super::shape::{block_len, body_at};
 use super::table_in_memory::Table;
-use super::write_blocks::write_blocks;
-use super::write_front::{write_directory, write_head, write_marks, write_ranks};
+use super::write_parts::{write_blocks, write_directory, write_marks};
 use ruling::Refusal;
+
+const EDITION: u8 = 1;
 
 // The length of the file of a table.
 pub fn encoded_len(table: &Table) -> usize
     ensures { result ≡ length (table_bytes table.now.inner) }
 {
-    let mut len = body_at(table);
-    for kind in 0..table.inner.count as usize {
-        let cells = block_len(table, kind);
-        len += cells;
-    }
-    len
+    table.body_at() + table.cells_len()
 }
 
 // Writes the file, part after part.
-fn write_table(table: &Table, out: &mut [u8]) -> usize
-    requires { length (table_bytes table.now.inner) ≤ length out.old }
-    ensures { Wrote out.old 0 (table_bytes table.now.inner) out.new result }
+fn write_table(table: &Table, file: &mut [u8])
+    requires { length file.old ≡ length (table_bytes table.now.inner) }
+    ensures { file.new ≡ table_bytes table.now.inner }
 {
-    let ranks = write_head(table, out);
-    let marks = write_ranks(table, out, ranks);
-    let pairs = write_marks(table, out, marks);
-    let cells = write_directory(table, out, pairs);
-    write_blocks(table, out, cells)
+    let kinds = table.inner.count;
+    let states = table.inner.states;
+    let (head, rest) = file.split_at_mut(4);
+    let (ranks, rest) = rest.split_at_mut(kinds as usize);
+    let (marks, rest) = rest.split_at_mut(states as usize);
+    let (directory, blocks) = rest.split_at_mut(4 * kinds as usize);
+    head.copy_from_slice(&[EDITION, states, kinds, 0]);
+    ranks.copy_from_slice(table.ranks());
+    write_marks(table, marks);
+    write_directory(table, directory);
+    write_blocks(table, blocks);
 }
 
 // Writes the file of a table into the buffer, and answers its length; 13 where the buffer is shorter. What is written passes
 // the check, and means the table.
+#[tactic(auto, using(crate::proofs::Encoded::passes, crate::proofs::Encoded::means))]
 pub fn encode(table: &Table, out: &mut [u8]) -> Result<usize, Refusal>
     ensures answer { Answers (room_fault (length (table_bytes table.now.inner)) (length out.old)) (λ n. (n ≡ length (table_bytes table.now.inner)) × (out.new ≡ table_bytes table.now.inner ++ drop (length (table_bytes table.now.inner)) out.old)) result }
     ensures kept { Kept result out.old out.new }
@@ -47,5 +49,6 @@ pub fn encode(table: &Table, out: &mut [u8]) -> Result<usize, Refusal>
     if out.len() < need {
         return Err(Refusal::BufferTooShort(need));
     }
-    Ok(write_table(table, out))
+    write_table(table, &mut out[..need]);
+    Ok(need)
 }

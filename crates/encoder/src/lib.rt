@@ -4,13 +4,11 @@
 mod copy;
 mod encoding;
 mod places;
-mod put;
+mod rows;
 mod shape;
 mod table_data;
 mod table_in_memory;
-mod table_ruling;
-mod write_blocks;
-mod write_front;
+mod write_parts;
 
 pub use copy::ranks_of;
 pub use encoding::{encode, encoded_len};

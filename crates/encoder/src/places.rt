@@ -13,14 +13,6 @@ pub fn place_of_cell(kind: u8, a: u8, b: u8) -> usize
     kind as usize * KIND_ROOM + a as usize * CHILD_ROOM + b as usize
 }
 
-// The same of indices into a table.
-pub(super) fn cell_place(kind: usize, a: usize, b: usize) -> usize
-    requires { (kind < 16) × ((a < 32) × (b < 32)) }
-    ensures { result ≡ cell_place kind a b }
-{
-    place_of_cell(kind as u8, a as u8, b as u8)
-}
-
 // The kind and the children whose cell stands at a place.
 pub(super) fn cell_parts(place: usize) -> (u8, u16, u16)
     requires { place < 16384 }

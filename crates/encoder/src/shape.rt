@@ -1,32 +1,36 @@
-ghost use Rattle.std.specs.Prelude.{◌≡◌, ◌<◌, ◌≤◌, [], length, if◌then◌else◌, slice_index_or};
-ghost use Rattle.ruling.specs.Written.{body_at};
+ghost use Rattle.std.specs.Prelude.{◌≡◌, ◌<◌, ◌≤◌, [], length, slice_index_or};
+ghost use Rattle.ruling.specs.Written.{body_at, joined};
 ghost use Rattle.encoder.specs.Tables.{kinds_held};
 ghost use Rattle.encoder.specs.Encodings.{table_blocks};
 
 use super::table_in_memory::Table;
+use table::cell_count;
 
-// The number of states that a child takes: all, or the one 0 where it is unused.
-pub(super) fn child_states(states: usize, used: bool) -> usize
-    ensures { result ≡ (if used then states else 1) }
-{
-    if used { states } else { 1 }
-}
+impl Table {
+    // Where the first block of its file begins.
+    pub(super) fn body_at(&self) -> usize
+        ensures value { result ≡ body_at self.now.inner.states (length (kinds_held self.now.inner)) }
+        ensures few { result ≤ 116 }
+    {
+        4 + 5 * self.inner.count as usize + self.inner.states as usize
+    }
 
-// The number of cells of a kind.
-pub(super) fn block_len(table: &Table, kind: usize) -> usize
-    requires { kind < length (kinds_held table.now.inner) }
-    ensures { (result ≡ length (slice_index_or (table_blocks table.now.inner) kind [])) × (result ≤ 1024) }
-{
-    let states = table.inner.states as usize;
-    let rank = table.inner.ranks[kind];
-    let firsts = child_states(states, rank >= 1);
-    let seconds = child_states(states, rank >= 2);
-    firsts * seconds
-}
+    // The number of cells of a kind.
+    pub(super) fn block_len(&self, kind: usize) -> usize
+        requires { kind < length (kinds_held self.now.inner) }
+        ensures value { result ≡ length (slice_index_or (table_blocks self.now.inner) kind []) }
+        ensures few { result ≤ 1024 }
+    {
+        cell_count(self.inner.states as usize, self.inner.ranks[kind])
+    }
 
-// Where the first block begins.
-pub(super) fn body_at(table: &Table) -> usize
-    ensures { (result ≡ body_at table.now.inner.states (length (kinds_held table.now.inner))) × (result ≤ 116) }
-{
-    4 + 5 * table.inner.count as usize + table.inner.states as usize
+    // The number of cells of all kinds.
+    pub(super) fn cells_len(&self) -> usize
+        ensures value { result ≡ length (joined (table_blocks self.now.inner)) }
+        ensures few { result ≤ 16384 }
+    {
+        (0..self.inner.count as usize)
+            .map(|kind| self.block_len(kind))
+            .sum()
+    }
 }

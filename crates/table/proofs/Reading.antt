@@ -1,20 +1,11 @@
 -- Reading the parts of a file whose head is right.
-use Rattle.std.proofs.Common.{◌≡◌, ℕ, suc, ◌+◌, ◌-◌, ◌<◌, ◌≤◌, true, false, cond, ◌||◌, eqb, List, length, drop, is_some, Some, None, Option, sym, ap, ◌∙◌, add-one, arith, get_or-drop, get_or-take, le-ltb}
+use Rattle.std.proofs.Common.{◌≡◌, ℕ, suc, ◌+◌, ◌-◌, ◌<◌, ◌≤◌, cond, List, length, Some, None, Option, sym, ap, ◌∙◌, add-one, arith, le-ltb}
 use Rattle.std.specs.Option.{option_map}
 use Rattle.ruling.specs.declared.refusal.Refusal.{Refusal}
 use Rattle.ruling.specs.declared.refusal.Refusal.TheVariants.{TableDirectory, TableByte}
 use Rattle.ruling.specs.Checks.{lowest, first}
-use Rattle.ruling.specs.KindLists.{KindList}
-use Rattle.table.specs.TableFiles.{byte_at, states_in, kind_count_in, ranks_in, rank_at, offset_at, length_at, pair_fault, pairs_fault, wrong_cell, cells_fault, missing_from}
-use Rattle.table.specs.FileParts.{Headed}
+use Rattle.table.specs.TableFiles.{byte_at, states_in, offset_at, length_at, pair_fault, pairs_fault, wrong_cell, cells_fault}
 use Rattle.table.specs.Faults.{decides}
-use Rattle.table.specs.FileRuled.{kind_count}
-
-pub rank_byte : (f : List ℕ) (k : ℕ) → k < kind_count_in f → rank_at f k ≡ byte_at f (4 + k)
-rank_byte f k l = get_or-take (kind_count_in f) (drop 4 f) k 0 l ∙ get_or-drop 4 f k 0
-
-pub rank_small : (f : List ℕ) (k : ℕ) → Headed f → KindList (ranks_in f) → k < kind_count_in f → rank_at f k ≤ 2
-rank_small f k h l u = l.2 k (let e = kind_count f h in omega arith)
 
 -- loops over the kinds: what is left decides
 left : (c k : ℕ) → k < c → c - k ≡ suc (c - (k + 1))
@@ -46,17 +37,6 @@ module _ (f : List ℕ) (k c : ℕ) (l : k < c) where
 
   pub cells_stop : (x : Refusal) → block_fault f k ≡ Some x → cells_fault f k (c - k) ≡ Some x
   cells_stop x p = cells_split ∙ decides (block_fault f k) _ x p
-
-  missing_split : missing_from f k (c - k) ≡ (is_some (lowest (λ p. eqb (byte_at f p) 255) (offset_at f k) (length_at f k)) || missing_from f (k + 1) (c - (k + 1)))
-  missing_split = ap (missing_from f k) (left c k l)
-      ∙ ap (λ j. is_some (lowest (λ p. eqb (byte_at f p) 255) (offset_at f k) (length_at f k)) || missing_from f j (c - (k + 1))) (sym (add-one k))
-
-  pub missing_on : is_some (lowest (λ p. eqb (byte_at f p) 255) (offset_at f k) (length_at f k)) ≡ false
-      → missing_from f (k + 1) (c - (k + 1)) ≡ missing_from f k (c - k)
-  missing_on p = sym (missing_split ∙ ap (λ b. b || missing_from f (k + 1) (c - (k + 1))) p)
-
-  pub missing_stop : is_some (lowest (λ p. eqb (byte_at f p) 255) (offset_at f k) (length_at f k)) ≡ true → missing_from f k (c - k) ≡ true
-  missing_stop p = missing_split ∙ ap (λ b. b || missing_from f (k + 1) (c - (k + 1))) p
 
 -- no kind is left
 none_left : (c k : ℕ) → c ≤ k → c - k ≡ 0

@@ -2,7 +2,7 @@
 use Rattle.std.specs.Prelude.{◌≡◌, ℕ, zero, suc, ◌+◌, ◌*◌, ◌^◌, ◌<◌, ◌≤◌, Bool, true, false, cond, ◌||◌, ◌⊎◌, List, length, is_some, Some, None, Option, ◌==◌, nat_eq, nat_le, refl}
 use Rattle.std.proofs.Common.{sym, ◌∙◌, ap, subst, inl, inr, pow-suc, one-mul, arith, length-take, length-drop, leb-false, eq-eqb}
 use Rattle.std.proofs.Math.Decide.{ℕ_discrete}
-use Rattle.std.proofs.Math.Nat.{pow-zero}
+use Rattle.std.proofs.Math.Nat.{pow-zero, mul-le-mul}
 use Rattle.std.proofs.lemmas.Nat.{mul-add-lt}
 use Rattle.std.proofs.lemmas.Bool.{or_parts, or_from, eqb-false, lt-leb}
 use Rattle.ruling.specs.Checks.{lowest}
@@ -26,6 +26,12 @@ pow_1 n r e = sym (ap (λ (x : ℕ). n ^ x) e ∙ (pow-suc n 0 ∙ (ap (λ (x : 
 
 pub pow_2 : (n r : ℕ) → r ≡ 2 → n * n ≡ n ^ r
 pow_2 n r e = sym (ap (λ (x : ℕ). n ^ x) e ∙ (pow-suc n 1 ∙ ap (λ (x : ℕ). x * n) (sym (pow_1 n 1 refl))))
+
+pub power_few : (n r : ℕ) → n ≤ 32 → r ≤ 2 → n ^ r ≤ 1024
+power_few n zero a b = let w = pow_0 n 0 refl in omega arith
+power_few n (suc zero) a b = let w = pow_1 n 1 refl in omega arith
+power_few n (suc (suc zero)) a b = let w = pow_2 n 2 refl in let v = mul-le-mul a a in omega arith
+power_few n (suc (suc (suc r))) a b = absurd (omega arith)
 
 none_of : {A : Type 0} (o : Option A) → is_some o ≡ false → o ≡ None
 none_of None e = refl

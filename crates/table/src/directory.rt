@@ -1,91 +1,106 @@
 ghost use Rattle.std.specs.Prelude.{◌≡◌, ◌+◌, ◌^◌, ◌<◌, ◌≤◌, length};
 ghost use Rattle.ruling.specs.Checks.{Answers};
 ghost use Rattle.ruling.specs.KindLists.{KindList};
-ghost use Rattle.table.specs.TableFiles.{kind_count_in, ranks_in, offset_at, length_at, word_at, pair_place, pair_fault, directory_fault};
-ghost use Rattle.table.specs.FileParts.{Headed, BlocksInside};
+ghost use Rattle.table.specs.TableFiles.{states_in, kind_count_in, ranks_in, cell_number, offset_at, length_at, word_at, pair_place, pair_fault, directory_fault};
+ghost use Rattle.table.specs.FileParts.{BlocksInside};
 
-use super::head::rank_at;
+use super::head::Head;
+use super::part::Part;
 use ruling::Refusal;
 
-// Where a kind's block lies in the file.
+// A file with the blocks of its kinds, once its directory is right.
 #[derive(Clone, Copy)]
-pub(super) struct BlockPlace {
-    pub(super) offset: usize,
-    pub(super) length: usize,
+pub(super) struct Blocks<'a> {
+    pub(super) head: Head<'a>,
+    ghost inside: { BlocksInside head.bytes.now },
 }
 
 // A number in two bytes, the low byte first.
 fn read_word(bytes: &[u8], at: usize) -> usize
     requires { at + 1 < length bytes.now }
-    ensures { result ≡ word_at bytes.now at }
+    ensures value { result ≡ word_at bytes.now at }
+    ensures small { result < 65536 }
 {
-    bytes[at] as usize + 256 * bytes[at + 1] as usize
-}
-
-// Where the pair of a kind stands.
-fn pair_at(bytes: &[u8], kind: usize) -> usize
-    requires { (Headed bytes.now) × (kind < kind_count_in bytes.now) }
-    ensures { result ≡ pair_place bytes.now kind }
-{
-    4 + bytes[2] as usize + bytes[1] as usize + 4 * kind
-}
-
-// The pair of a kind.
-pub(super) fn block_place(bytes: &[u8], kind: usize) -> BlockPlace
-    requires { (Headed bytes.now) × (kind < kind_count_in bytes.now) }
-    ensures { (result.offset ≡ offset_at bytes.now kind) × (result.length ≡ length_at bytes.now kind) }
-{
-    let at = pair_at(bytes, kind);
-    BlockPlace {
-        offset: read_word(bytes, at),
-        length: read_word(bytes, at + 2),
-    }
+    u16::from_le_bytes([bytes[at], bytes[at + 1]]) as usize
 }
 
 // The number of cells of a kind of this rank.
-pub(super) fn cell_count(states: usize, rank: u8) -> usize
+pub fn cell_count(states: usize, rank: u8) -> usize
     requires { (states ≤ 32) × (rank ≤ 2) }
-    ensures { result ≡ states ^ rank }
+    ensures value { result ≡ states ^ rank }
+    ensures few { result ≤ 1024 }
 {
-    match rank {
-        0 => 1,
-        1 => states,
-        _ => states * states,
-    }
+    states.pow(rank as u32)
 }
 
-// One pair, where the block before ends at `from`: 5. It answers where its own block ends.
-fn check_pair(bytes: &[u8], from: usize, kind: usize) -> Result<usize, Refusal>
-    requires { (Headed bytes.now) × ((KindList (ranks_in bytes.now)) × (kind < kind_count_in bytes.now)) }
-    ensures { Answers (pair_fault bytes.now from kind) (λ to. to ≡ offset_at bytes.now kind + length_at bytes.now kind) result }
-{
-    let at = pair_at(bytes, kind);
-    let place = block_place(bytes, kind);
-    if place.offset < from {
-        return Err(Refusal::TableDirectory(at));
+impl<'a> Head<'a> {
+    // Where the pair of a kind stands.
+    fn pair_place(&self, kind: usize) -> usize
+        requires { kind < kind_count_in self.now.bytes.now }
+        ensures { result ≡ pair_place self.now.bytes.now kind }
+    {
+        4 + self.kind_count() + self.states() + 4 * kind
     }
-    if place.length != cell_count(bytes[1] as usize, rank_at(bytes, kind)) {
-        return Err(Refusal::TableDirectory(at + 2));
-    }
-    let to = place.offset + place.length;
-    if bytes.len() < to {
-        return Err(Refusal::TableDirectory(at));
-    }
-    Ok(to)
-}
 
-// The directory: each pair, then what follows the last block: 5.
-pub(super) fn check_directory(bytes: &[u8]) -> Result<(), Refusal>
-    requires { (Headed bytes.now) × (KindList (ranks_in bytes.now)) }
-    ensures { Answers (directory_fault bytes.now) (λ _. BlocksInside bytes.now) result }
-{
-    let kinds = bytes[2] as usize;
-    let mut from = 4 + 5 * kinds + bytes[1] as usize;
-    for kind in 0..kinds {
-        from = check_pair(bytes, from, kind)?;
+    // A kind's block, as its pair says.
+    pub(super) fn block(&self, kind: usize) -> Part
+        requires { kind < kind_count_in self.now.bytes.now }
+        ensures offset { result.offset ≡ offset_at self.now.bytes.now kind }
+        ensures length { result.length ≡ length_at self.now.bytes.now kind }
+        ensures small { result.offset + result.length < 131072 }
+    {
+        let at = self.pair_place(kind);
+        Part {
+            offset: read_word(self.bytes, at),
+            length: read_word(self.bytes, at + 2),
+        }
     }
-    if from < bytes.len() {
-        return Err(Refusal::TableDirectory(from));
+
+    // The place of a cell within its kind's block.
+    pub(super) fn cell_number(&self, rank: u8, a: usize, b: usize) -> usize
+        requires { (a < states_in self.now.bytes.now) × (b < states_in self.now.bytes.now) }
+        ensures { result ≡ cell_number (states_in self.now.bytes.now) rank a b }
+    {
+        match rank {
+            0 => 0,
+            1 => a,
+            _ => a * self.states() + b,
+        }
     }
-    Ok(())
+
+    // One pair, where the block before ends at `from`: 5. It answers where its own block ends.
+    fn check_pair(&self, from: usize, kind: usize) -> Result<usize, Refusal>
+        requires { (KindList (ranks_in self.now.bytes.now)) × (kind < kind_count_in self.now.bytes.now) }
+        ensures { Answers (pair_fault self.now.bytes.now from kind) (λ to. to ≡ offset_at self.now.bytes.now kind + length_at self.now.bytes.now kind) result }
+    {
+        let at = self.pair_place(kind);
+        let block = self.block(kind);
+        if block.offset < from {
+            return Err(Refusal::TableDirectory(at));
+        }
+        if block.length != cell_count(self.states(), self.rank(kind)) {
+            return Err(Refusal::TableDirectory(at + 2));
+        }
+        let to = block.offset + block.length;
+        if self.bytes.len() < to {
+            return Err(Refusal::TableDirectory(at));
+        }
+        Ok(to)
+    }
+
+    // The directory: each pair, then what follows the last block: 5.
+    pub(super) fn check_directory(&self) -> Result<Blocks<'a>, Refusal>
+        requires { KindList (ranks_in self.now.bytes.now) }
+        ensures { Answers (directory_fault self.now.bytes.now) (λ blocks. blocks.head.bytes.now ≡ self.now.bytes.now) result }
+    {
+        let kinds = self.kind_count();
+        let mut from = 4 + 5 * kinds + self.states();
+        for kind in 0..kinds {
+            from = self.check_pair(from, kind)?;
+        }
+        if from < self.bytes.len() {
+            return Err(Refusal::TableDirectory(from));
+        }
+        Ok(Blocks { head: *self })
+    }
 }

@@ -1,10 +1,10 @@
-ghost use Rattle.std.specs.Prelude.{◌≡◌, ◌<◌};
+ghost use Rattle.std.specs.Prelude.{◌≡◌, ◌<◌, ◌==◌};
 ghost use Rattle.ruling.specs.Checks.{Answers, first};
 ghost use Rattle.ruling.specs.KindLists.{KindList, rank_fault, leaf_fault};
-ghost use Rattle.table.specs.TableFiles.{head_fault, kind_count_in, ranks_in, rank_at, mark_fault};
+ghost use Rattle.table.specs.TableFiles.{head_fault, states_in, kind_count_in, ranks_in, rank_at, byte_at, mark_place, mark_fault};
 ghost use Rattle.table.specs.FileParts.{Headed};
 
-use super::byte_test::{WrongMark, first_found};
+use super::part::Part;
 use ruling::{Refusal, check_leaf_kind, check_ranks};
 
 const EDITION: u8 = 1;
@@ -15,9 +15,16 @@ const MOST_STATES: u8 = 32;
 
 const MOST_KINDS: u8 = 16;
 
+// A file whose first four bytes are right, and that reaches the end of its directory.
+#[derive(Clone, Copy)]
+pub(super) struct Head<'a> {
+    pub(super) bytes: &'a [u8],
+    ghost headed: { Headed bytes.now },
+}
+
 // The length and the first four bytes: 4.
-pub(super) fn check_head(bytes: &[u8]) -> Result<(), Refusal>
-    ensures { Answers (head_fault bytes.now) (λ _. Headed bytes.now) result }
+pub(super) fn check_head(bytes: &[u8]) -> Result<Head<'_>, Refusal>
+    ensures { Answers (head_fault bytes.now) (λ head. head.bytes.now ≡ bytes.now) result }
 {
     let len = bytes.len();
     if len > LONGEST {
@@ -43,43 +50,64 @@ pub(super) fn check_head(bytes: &[u8]) -> Result<(), Refusal>
     if len < 4 + 5 * kinds as usize + states as usize {
         return Err(Refusal::TableHead(len));
     }
-    Ok(())
+    Ok(Head { bytes })
 }
 
-// The ranks, one byte a kind.
-pub(super) fn ranks(bytes: &[u8]) -> &[u8]
-    requires { Headed bytes.now }
-    ensures { result.now ≡ ranks_in bytes.now }
-{
-    &bytes[4..4 + bytes[2] as usize]
-}
+impl<'a> Head<'a> {
+    // The number of states that the file writes.
+    pub(super) fn states(&self) -> usize
+        ensures { result ≡ states_in self.now.bytes.now }
+    {
+        self.bytes[1] as usize
+    }
 
-// The rank of a kind.
-pub(super) fn rank_at(bytes: &[u8], kind: usize) -> u8
-    requires { (Headed bytes.now) × (kind < kind_count_in bytes.now) }
-    ensures { result ≡ rank_at bytes.now kind }
-{
-    bytes[4 + kind]
-}
+    pub(super) fn kind_count(&self) -> usize
+        ensures { result ≡ kind_count_in self.now.bytes.now }
+    {
+        self.bytes[2] as usize
+    }
 
-// The ranks: 2, then 3.
-pub(super) fn check_kinds(bytes: &[u8]) -> Result<(), Refusal>
-    requires { Headed bytes.now }
-    ensures { Answers (first (rank_fault (ranks_in bytes.now)) (leaf_fault (ranks_in bytes.now))) (λ _. KindList (ranks_in bytes.now)) result }
-{
-    let ranks = ranks(bytes);
-    check_ranks(ranks)?;
-    check_leaf_kind(ranks)
-}
+    // The ranks, one byte a kind.
+    pub(super) fn ranks(&self) -> &'a [u8]
+        ensures { result.now ≡ ranks_in self.now.bytes.now }
+    {
+        &self.bytes[4..4 + self.kind_count()]
+    }
 
-// The marks, one byte a state: 6.
-pub(super) fn check_marks(bytes: &[u8]) -> Result<(), Refusal>
-    requires { Headed bytes.now }
-    ensures { Answers (mark_fault bytes.now) (λ _. Unit {0}) result }
-{
-    let from = 4 + bytes[2] as usize;
-    match first_found(&WrongMark, bytes, from, bytes[1] as usize) {
-        Some(at) => Err(Refusal::TableByte(at)),
-        None => Ok(()),
+    pub(super) fn rank(&self, kind: usize) -> u8
+        requires { kind < kind_count_in self.now.bytes.now }
+        ensures { result ≡ rank_at self.now.bytes.now kind }
+    {
+        self.bytes[4 + kind]
+    }
+
+    pub(super) fn mark(&self, state: usize) -> bool
+        requires { state < states_in self.now.bytes.now }
+        ensures { result ≡ (byte_at self.now.bytes.now (mark_place self.now.bytes.now state) == 1) }
+    {
+        self.bytes[4 + self.kind_count() + state] == 1
+    }
+
+    // The ranks: 2, then 3.
+    pub(super) fn check_kinds(&self) -> Result<(), Refusal>
+        ensures { Answers (first (rank_fault (ranks_in self.now.bytes.now)) (leaf_fault (ranks_in self.now.bytes.now))) (λ _. KindList (ranks_in self.now.bytes.now)) result }
+    {
+        let ranks = self.ranks();
+        check_ranks(ranks)?;
+        check_leaf_kind(ranks)
+    }
+
+    // The marks, one byte a state: 6.
+    pub(super) fn check_marks(&self) -> Result<(), Refusal>
+        ensures { Answers (mark_fault self.now.bytes.now) (λ _. Unit {0}) result }
+    {
+        let marks = Part {
+            offset: 4 + self.kind_count(),
+            length: self.states(),
+        };
+        match marks.first_found(self.bytes, |mark| mark > 1) {
+            Some(at) => Err(Refusal::TableByte(at)),
+            None => Ok(()),
+        }
     }
 }

@@ -1,10 +1,8 @@
-use Rattle.std.proofs.Common.{◌<◌, ◌≢◌, length, arith, length-set, get_or-set_other, get_or-set_same, below_more}
+use Rattle.std.proofs.Common.{◌≡◌, ◌/◌, ◌%◌, unwrap_or, rules}
+use Rattle.ruling.specs.Questions.{targeted}
+use Rattle.encoder.proofs.FromFn.{made_each}
 use Rattle.encoder.proofs.copy.cells_of.Goals as goal
 
-pub loop-place-preserved : goal.loop-place-preserved
-loop-place-preserved g c = (
-  simp length-set c.loop-place.invariant.0,
-  below_more _ _
-      (λ k h. let ne : k ≢ c.loop-place.place = omega arith in rw get_or-set_other (c.loop-place.invariant.1 k h))
-      (let lt : c.loop-place.place < length c.loop-place.cells = omega (arith, c.loop-place.invariant.0) in rw get_or-set_same c.cell_or_zero-cell.ensures),
-)
+pub returns : goal.returns
+returns g c i l =
+    made_each _ _ _ (λ i y. y ≡ unwrap_or (targeted (g.R.Ruling.meaning c.args.ruling.now).plain (i / 1024) (i / 32 % 32) (i % 32)) 0) (λ i y q k. search rules) 16384 c.from_fn.ensures.items i 0 l

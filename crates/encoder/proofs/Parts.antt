@@ -1,0 +1,32 @@
+-- The parts of a file, byte by byte and one after another.
+use Rattle.std.proofs.Common.{◌≡◌, ℕ, suc, ◌+◌, ◌<◌, List, [], ◌∷◌, length, get_or, take, sum_by, sym, refl, ap, ◌∙◌, ap₂, add-zero, arith, length-append}
+use Rattle.std.specs.List.{range_with_len}
+use Rattle.std.proofs.lemmas.List.Sums.{sum_by-cons}
+use Rattle.ruling.specs.Written.{row, joined}
+use Rattle.ruling.proofs.Rows.{row_length, row_at}
+use Rattle.encoder.proofs.Blocks.{joined_take}
+
+-- lists of bytes with the same bytes
+pub same_bytes : (xs ys : List ℕ) → length xs ≡ length ys → ((k : ℕ) → k < length xs → get_or xs k 0 ≡ get_or ys k 0) → xs ≡ ys
+same_bytes [] [] e h = refl
+same_bytes [] (y ∷ ys) e h = absurd (omega arith)
+same_bytes (x ∷ xs) [] e h = absurd (omega arith)
+same_bytes (x ∷ xs) (y ∷ ys) e h = ap₂ ◌∷◌ (h 0 (omega arith)) (same_bytes xs ys (omega arith) (λ k l. h (suc k) (omega arith)))
+
+pub row_of : (n : ℕ) (f : ℕ → ℕ) (xs : List ℕ) → length xs ≡ n → ((k : ℕ) → k < n → get_or xs k 0 ≡ f k) → xs ≡ row n f
+row_of n f xs e h = same_bytes xs (row n f) (e ∙ sym (row_length n f)) (λ k l. let u : k < n = omega arith in h k u ∙ sym (row_at n f k 0 u))
+
+-- the length of what is joined, added up
+pub length_so_far : (bs : List (List ℕ)) (j : ℕ) → j < length bs → length (joined (take (j + 1) bs)) ≡ length (joined (take j bs)) + length (get_or bs j [])
+length_so_far bs j l = ap length (joined_take bs j l) ∙ length-append (joined (take j bs)) (get_or bs j [])
+
+pub lengths_added : (bs : List (List ℕ)) (a : ℕ) (h : ℕ → ℕ) → ((k : ℕ) → k < length bs → h (a + k) ≡ length (get_or bs k []))
+    → sum_by h (range_with_len a (length bs)) ≡ length (joined bs)
+lengths_added [] a h e = refl
+lengths_added (b ∷ bs) a h e =
+    let r = lengths_added bs (a + 1) h (λ k l. ap h (arrange a k) ∙ e (suc k) (omega arith)) in
+    let c : h a ≡ length b = ap h (sym (add-zero a)) ∙ e 0 (omega arith) in
+    sum_by-cons h a (range_with_len (a + 1) (length bs)) ∙ (ap₂ (λ x y. x + y) c r ∙ sym (length-append b (joined bs)))
+  where
+    arrange : (a k : ℕ) → a + 1 + k ≡ a + suc k
+    arrange a k = omega arith

@@ -1,0 +1,7 @@
+use Rattle.std.proofs.Common.{◌<◌, length, arith, rules}
+use Rattle.encoder.proofs.Parts.{same_bytes}
+use Rattle.encoder.proofs.write_parts.write_block.Goals as goal
+
+pub returns : goal.returns
+returns c = same_bytes _ _ (search rules)
+    (λ k l. let u : k < length c.args.out.now = omega arith in let h = c.write_row.ensures k u in search rules)
