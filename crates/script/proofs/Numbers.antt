@@ -1,10 +1,47 @@
 -- Numbers and bytes, digit by digit.
-use Rattle.std.proofs.Common.{◌≡◌, ℕ, ◌+◌, ◌*◌, ◌<◌, ◌≤◌, min, List, [], ◌∷◌, ◌++◌, length, get_or, drop, Some, None, Option, sym, refl, ap, ◌∙◌, ap₂, append_assoc, arith}
+use Rattle.std.proofs.Common.{◌≡◌, ◌≢◌, ℕ, ◌+◌, ◌*◌, ◌<◌, ◌≤◌, min, Bool, true, false, List, [], ◌∷◌, ◌++◌, length, get_or, drop, Some, None, Option, sym, refl, ap, ◌∙◌, append_assoc, inl, inr, arith}
 use native.Mathlib.Decide.{dec_le}
 use native.Mathlib.Nat.{min-eq_left, min-eq_right}
-use Rattle.std.specs.Option.{option_map}
-use Rattle.std.proofs.lemmas.List.{drop_more, drop_all}
-use Rattle.script.specs.Arguments.{given, digit, numeral, hex_byte, hex_bytes}
+use Rattle.std.specs.Char.{digit_value, IsDigitOf, NotDecimalDigitIn}
+use Rattle.std.specs.Option.{option_map, SomeIff, MatchOption}
+use Rattle.std.proofs.lemmas.List.{drop_more}
+use Rattle.script.specs.Arguments.{given, between, digit, hex_digit, numeral, hex_byte, hex_bytes}
+
+-- what the library reads as a digit is one
+pub digit_is : (c : ℕ) (r : Option ℕ) → SomeIff r (digit_value c < 10) (digit_value c) → r ≡ digit c
+digit_is c None h = grind arith
+digit_is c (Some d) h = grind arith
+
+yes_between : (low c high : ℕ) → low ≤ c → c ≤ high → between low c high ≡ true
+yes_between low c high p q = grind arith
+
+hex_some : (c d : ℕ) → d < 16 → IsDigitOf c d → hex_digit c ≡ Some d
+hex_some c d l (inl k) = grind arith
+hex_some c d l (inr (inl k)) = grind arith
+hex_some c d l (inr (inr k)) = grind arith
+
+t1 : (c : ℕ) → between 48 c 57 ≡ true → digit_value c < 16
+t1 c h = grind arith
+
+t2 : (c : ℕ) → between 97 c 102 ≡ true → digit_value c < 16
+t2 c h = grind arith
+
+t3 : (c : ℕ) → between 65 c 70 ≡ true → digit_value c < 16
+t3 c h = grind arith
+
+nay : (P : Type 0) (b : Bool) → (b ≡ true → P) → (P → ⊥) → b ≡ false
+nay P true f n = absurd (n (f refl))
+nay P false f n = refl
+
+hex_none : (c : ℕ) → ¬ (digit_value c < 16) → hex_digit c ≡ None
+hex_none c n =
+    let p = nay (digit_value c < 16) (between 48 c 57) (t1 c) n in
+    let q = nay (digit_value c < 16) (between 97 c 102) (t2 c) n in
+    let r = nay (digit_value c < 16) (between 65 c 70) (t3 c) n in rw (p, q, r) refl
+
+pub hex_digit_is : (c : ℕ) (r : Option ℕ) → SomeIff r (digit_value c < 16) (digit_value c) → MatchOption r (NotDecimalDigitIn 16 c) (IsDigitOf c) → r ≡ hex_digit c
+hex_digit_is c None h k = sym (hex_none c h)
+hex_digit_is c (Some d) h k = sym (hex_some c d (omega arith) k)
 
 abbrev capped : ℕ → ℕ
 capped n = min n 65536
@@ -37,19 +74,19 @@ abbrev pub onto : List ℕ → Option (List ℕ) → Option (List ℕ)
 onto xs None = None
 onto xs (Some ys) = Some (xs ++ ys)
 
-pub byte_more : (word : List ℕ) (i : ℕ) (o : Option ℕ) → i + 1 < length word → hex_byte (get_or word i 0) (get_or word (i + 1) 0) ≡ o
-    → hex_bytes (drop i word) ≡ given o (λ b. given (hex_bytes (drop (i + 2) word)) (λ bs. Some (b ∷ bs)))
-byte_more word i o l e =
-    let f : i + 1 + 1 ≡ i + 2 = omega arith in
-    ap hex_bytes (drop_more word i 0 (omega arith) ∙ ap (λ xs. get_or word i 0 ∷ xs) (drop_more word (i + 1) 0 l))
-    ∙ ap₂ (λ x (j : ℕ). given x (λ b. given (hex_bytes (drop j word)) (λ bs. Some (b ∷ bs)))) e f
-
 pub onto_more : (xs : List ℕ) (b : ℕ) (o : Option (List ℕ)) → onto xs (given o (λ bs. Some (b ∷ bs))) ≡ onto (xs ++ (b ∷ [])) o
 onto_more xs b None = refl
 onto_more xs b (Some ys) = ap (λ (zs : List ℕ). Some zs) (sym (append_assoc xs (b ∷ []) ys))
 
-pub half_left : (word : List ℕ) (i : ℕ) → i + 1 ≡ length word → hex_bytes (drop i word) ≡ None
-half_left word i e = ap hex_bytes (drop_more word i 0 (omega arith) ∙ ap (λ xs. get_or word i 0 ∷ xs) (drop_all (i + 1) word (omega arith)))
+-- a pair of digits more, or half a pair
+pub pair_more : (left pair rest : List ℕ) → left ≡ pair ++ rest → length pair ≡ 2
+    → hex_bytes left ≡ given (hex_byte (get_or pair 0 0) (get_or pair 1 0)) (λ b. given (hex_bytes rest) (λ bs. Some (b ∷ bs)))
+pair_more left [] rest e l = absurd (omega arith)
+pair_more left (h ∷ []) rest e l = absurd (omega arith)
+pair_more left (h ∷ (k ∷ [])) rest e l = ap hex_bytes e
+pair_more left (h ∷ (k ∷ (x ∷ xs))) rest e l = absurd (omega arith)
 
-pub none_left : (word : List ℕ) (i : ℕ) → length word ≤ i → hex_bytes (drop i word) ≡ Some []
-none_left word i l = ap hex_bytes (drop_all i word l)
+pub half_pair : (left pair : List ℕ) → length pair ≡ min 2 (length left) → 0 < length left → length pair ≢ 2 → hex_bytes left ≡ None
+half_pair [] pair e l n = absurd (omega arith)
+half_pair (h ∷ []) pair e l n = refl
+half_pair (h ∷ (k ∷ cs)) pair e l n = absurd (n (omega arith))
