@@ -40,7 +40,7 @@ impl Verb {
 }
 
 // A call with what it is given: the bytes of a table or a record, the length of a lent stack, the numbers of a question.
-#[derive(Drop)]
+#[derive(Debug, PartialEq, Eq, Drop)]
 pub enum Call {
     Table(Vec<u8>),
     Judge(Vec<u8>, u32),
@@ -52,7 +52,7 @@ pub enum Call {
 }
 
 // What a line says: nothing, no call, or a call.
-#[derive(Drop)]
+#[derive(Debug, PartialEq, Eq, Drop)]
 pub enum Line {
     Blank,
     NoCall,

@@ -19,19 +19,17 @@ fn verb_of(word: &[u8]) -> Option<Verb>
 fn read_call(heap: Global, verb: Verb, mut words: Words<'_>) -> Result<Option<Call>, AllocError>
     ensures { IfOk result (λ o. option_map order_in o ≡ order_of verb (words_left words.entry)) }
 {
-    match verb {
-        Verb::Table => Ok(one_bytes(heap, words)?.map(Call::Table)),
-        Verb::Judge => Ok(bytes_and_room(heap, words)?.map(|(bytes, room)| Call::Judge(
-            bytes, room,
-        ))),
+    Ok(match verb {
+        Verb::Table => one_bytes(heap, words)?.map(Call::Table),
+        Verb::Judge => bytes_and_room(heap, words)?.map(|(bytes, room)| Call::Judge(bytes, room)),
         Verb::Measure => {
-            Ok(bytes_and_room(heap, words)?.map(|(bytes, room)| Call::Measure(bytes, room)))
+            bytes_and_room(heap, words)?.map(|(bytes, room)| Call::Measure(bytes, room))
         }
-        Verb::States => Ok(words.next().is_none().then_some(Call::States)),
-        Verb::Rank => Ok(one_number(words).map(Call::Rank)),
-        Verb::Target => Ok(three_numbers(words).map(|(kind, a, b)| Call::Target(kind, a, b))),
-        Verb::Mark => Ok(one_number(words).map(Call::Mark)),
-    }
+        Verb::States => words.next().is_none().then_some(Call::States),
+        Verb::Rank => one_number(words).map(Call::Rank),
+        Verb::Target => three_numbers(words).map(|(kind, a, b)| Call::Target(kind, a, b)),
+        Verb::Mark => one_number(words).map(Call::Mark),
+    })
 }
 
 // What a line of a script says. It fails only for want of memory.
