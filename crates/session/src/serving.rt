@@ -1,5 +1,6 @@
 ghost use Rattle.std.specs.Prelude.{◌≡◌, is_ok, IfOk, if◌then◌else◌, None, MatchOption};
 ghost use Rattle.std.specs.Fn.{FnOnceReturnsAt};
+ghost use Rattle.table.specs.declared.flat_table.FlatTable.{FlatTable};
 ghost use Rattle.table.specs.TableFiles.{table_fault};
 ghost use Rattle.script.specs.Calls.{order_in, line_says};
 ghost use Rattle.session.specs.Sessions.{file_in, table_answer, table_kept, answer_to, kept_after, line_answer, line_kept};
@@ -7,9 +8,10 @@ ghost use Rattle.session.specs.Sessions.{file_in, table_answer, table_kept, answ
 use super::kept::KeptTable;
 use super::questions::{ask_judge, ask_mark, ask_measure, ask_rank, ask_target};
 use super::session::Session;
+use ruling::Ruling;
 use script::{Answer, Call, Line, read_line};
 use std::alloc::{AllocError, Global};
-use table::check_table;
+use table::{FlatTable, check_table};
 
 impl Session {
     // A session that keeps no table yet.
@@ -34,15 +36,15 @@ impl Session {
     }
 
     // What the kept table answers to a question; it is no call where no table is kept.
-    fn ask<F: FnOnce(&KeptTable) -> Result<Answer, AllocError>>(
+    fn ask<F: FnOnce(&FlatTable<'_>) -> Result<Answer, AllocError>>(
         &self,
         question: F,
     ) -> Result<Answer, AllocError>
         requires { F.IsAlwaysCallable question }
-        ensures { MatchOption self.now.kept (result ≡ Ok Answer.NoCall) (λ t. FnOnceReturnsAt F.FnOnce question t result) }
+        ensures { MatchOption (file_in self.now) (result ≡ Ok Answer.NoCall) (λ f. (t : FlatTable) × (t.bytes.now ≡ f) × FnOnceReturnsAt F.FnOnce question t result) }
     {
         match &self.kept {
-            Some(table) => question(table),
+            Some(table) => question(&table.flat()),
             None => Ok(Answer::NoCall),
         }
     }
@@ -55,15 +57,15 @@ impl Session {
         match call {
             Call::Table(bytes) => Ok(self.keep(bytes)),
             Call::Judge(bytes, room) => {
-                self.ask(|table| ask_judge(heap, &table.flat(), bytes.as_slice(), room))
+                self.ask(|table| ask_judge(heap, table, bytes.as_slice(), room))
             }
             Call::Measure(bytes, room) => {
-                self.ask(|table| ask_measure(heap, &table.flat(), bytes.as_slice(), room))
+                self.ask(|table| ask_measure(heap, table, bytes.as_slice(), room))
             }
-            Call::States => self.ask(|table| Ok(Answer::Number(table.states))),
-            Call::Rank(kind) => self.ask(|table| Ok(ask_rank(&table.flat(), kind))),
-            Call::Target(kind, a, b) => self.ask(|table| Ok(ask_target(&table.flat(), kind, a, b))),
-            Call::Mark(state) => self.ask(|table| Ok(ask_mark(&table.flat(), state))),
+            Call::States => self.ask(|table| Ok(Answer::Number(table.states()))),
+            Call::Rank(kind) => self.ask(|table| Ok(ask_rank(table, kind))),
+            Call::Target(kind, a, b) => self.ask(|table| Ok(ask_target(table, kind, a, b))),
+            Call::Mark(state) => self.ask(|table| Ok(ask_mark(table, state))),
         }
     }
 
