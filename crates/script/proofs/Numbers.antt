@@ -1,6 +1,6 @@
 -- Numbers and bytes, digit by digit.
-use Rattle.std.proofs.Common.{◌≡◌, ◌≢◌, ℕ, ◌+◌, ◌*◌, ◌<◌, ◌≤◌, min, Bool, true, false, List, [], ◌∷◌, ◌++◌, length, get_or, drop, Some, None, Option, sym, refl, ap, ◌∙◌, append_assoc, inl, inr, arith}
-use native.Mathlib.Decide.{dec_le}
+use Rattle.std.proofs.Common.{◌≡◌, ◌≢◌, ℕ, ◌+◌, ◌*◌, ◌<◌, ◌≤◌, min, Bool, true, cond, List, [], ◌∷◌, ◌++◌, length, get_or, drop, Some, None, Option, sym, refl, ap, ◌∙◌, append_assoc, inl, inr, arith}
+use Rattle.std.proofs.lemmas.Bool.{cases_lt}
 use native.Mathlib.Nat.{min-eq_left, min-eq_right}
 use Rattle.std.specs.Char.{digit_value, IsDigitOf, NotDecimalDigitIn}
 use Rattle.std.specs.Option.{option_map, SomeIff, MatchOption}
@@ -12,35 +12,27 @@ pub digit_is : (c : ℕ) (r : Option ℕ) → SomeIff r (digit_value c < 10) (di
 digit_is c None h = grind arith
 digit_is c (Some d) h = grind arith
 
-yes_between : (low c high : ℕ) → low ≤ c → c ≤ high → between low c high ≡ true
-yes_between low c high p q = grind arith
-
 hex_some : (c d : ℕ) → d < 16 → IsDigitOf c d → hex_digit c ≡ Some d
 hex_some c d l (inl k) = grind arith
 hex_some c d l (inr (inl k)) = grind arith
 hex_some c d l (inr (inr k)) = grind arith
 
-t1 : (c : ℕ) → between 48 c 57 ≡ true → digit_value c < 16
-t1 c h = grind arith
+-- a byte between the ends of one of these rows is a digit
+value_figure : (c : ℕ) → between 48 c 57 ≡ true → digit_value c < 16
+value_figure c h = grind arith
 
-t2 : (c : ℕ) → between 97 c 102 ≡ true → digit_value c < 16
-t2 c h = grind arith
+value_small : (c : ℕ) → between 97 c 102 ≡ true → digit_value c < 16
+value_small c h = grind arith
 
-t3 : (c : ℕ) → between 65 c 70 ≡ true → digit_value c < 16
-t3 c h = grind arith
+value_capital : (c : ℕ) → between 65 c 70 ≡ true → digit_value c < 16
+value_capital c h = grind arith
 
-nay : (P : Type 0) (b : Bool) → (b ≡ true → P) → (P → ⊥) → b ≡ false
-nay P true f n = absurd (n (f refl))
-nay P false f n = refl
-
-hex_none : (c : ℕ) → ¬ (digit_value c < 16) → hex_digit c ≡ None
-hex_none c n =
-    let p = nay (digit_value c < 16) (between 48 c 57) (t1 c) n in
-    let q = nay (digit_value c < 16) (between 97 c 102) (t2 c) n in
-    let r = nay (digit_value c < 16) (between 65 c 70) (t3 c) n in rw (p, q, r) refl
+none_of : (v x y z : ℕ) (a b d : Bool) → (v < 16 → ⊥) → (a ≡ true → v < 16) → (b ≡ true → v < 16) → (d ≡ true → v < 16)
+    → None ≡ cond a (Some x) (cond b (Some y) (cond d (Some z) None))
+none_of v x y z a b d n p q r = grind arith
 
 pub hex_digit_is : (c : ℕ) (r : Option ℕ) → SomeIff r (digit_value c < 16) (digit_value c) → MatchOption r (NotDecimalDigitIn 16 c) (IsDigitOf c) → r ≡ hex_digit c
-hex_digit_is c None h k = sym (hex_none c h)
+hex_digit_is c None h k = none_of (digit_value c) _ _ _ _ _ _ h (value_figure c) (value_small c) (value_capital c)
 hex_digit_is c (Some d) h k = sym (hex_some c d (omega arith) k)
 
 abbrev capped : ℕ → ℕ
@@ -58,11 +50,11 @@ wide n (c ∷ cs) h = go (digit c) (λ d. wide (n * 10 + d) cs (omega arith)) (�
     go (Some d) p q = p d ∙ sym (q d)
 
 pub cap_read : (n : ℕ) (cs : List ℕ) → option_map capped (numeral n cs) ≡ option_map capped (numeral (capped n) cs)
-cap_read n cs = go (dec_le 65536 n)
-  where
-    go : Dec (65536 ≤ n) → option_map capped (numeral n cs) ≡ option_map capped (numeral (capped n) cs)
-    go (yes h) = wide n cs h ∙ ap (λ (x : ℕ). option_map capped (numeral x cs)) (sym (min-eq_right h))
-    go (no h) = ap (λ (x : ℕ). option_map capped (numeral x cs)) (sym (min-eq_left (let l : n ≤ 65536 = omega arith in l)))
+cap_read n cs =
+    elim (cases_lt n 65536) [
+      | inl l ↦ ap (λ (x : ℕ). option_map capped (numeral x cs)) (sym (min-eq_left (omega arith)))
+      | inr l ↦ wide n cs l ∙ ap (λ (x : ℕ). option_map capped (numeral x cs)) (sym (min-eq_right l))
+    ]
 
 -- one digit more, or a byte that is none
 pub digit_more : (word : List ℕ) (i n : ℕ) (o : Option ℕ) → i < length word → digit (get_or word i 0) ≡ o
