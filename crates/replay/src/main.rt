@@ -1,8 +1,8 @@
 // Reads a script from standard input, line by line, and prints the answer to each call.
 #![tactic(auto)]
 
-use anyhow::anyhow;
-use script::{Answer, text};
+use anyhow::ensure;
+use script::Answer;
 use session::Session;
 use std::io::{BufRead, BufReader};
 
@@ -11,28 +11,18 @@ fn answer_line(rt: &HostRuntime, session: &mut Session, line: &[u8]) -> anyhow::
     let Some(answer) = session.respond(rt.alloc(), line)? else {
         return Ok(false);
     };
-    let shown = text(rt.alloc(), answer)?;
-    println!(rt; "{shown}")?;
-    Ok(matches!(answer, Answer::NoCall))
+    println!(rt; "{answer}")?;
+    Ok(answer == Answer::NoCall)
 }
 
 fn run(rt: &HostRuntime) -> anyhow::Result<()> {
-    let mut input = BufReader::new(rt.alloc(), rt.stdin())?;
+    let input = BufReader::new(rt.alloc(), rt.stdin())?;
     let mut session = Session::new();
-    let mut line = Vec::new(rt.alloc());
     let mut wrong = false;
-    for _ in 0..u64::MAX {
-        line.clear();
-        if input.read_until(b'\n', &mut line)? == 0 {
-            break;
-        }
-        if answer_line(rt, &mut session, line.as_slice())? {
-            wrong = true;
-        }
+    for line in input.split(rt.alloc(), b'\n') {
+        wrong |= answer_line(rt, &mut session, line?.as_slice())?;
     }
-    if wrong {
-        return Err(anyhow!("a line of the script is no call"));
-    }
+    ensure!(!wrong, "a line of the script is no call");
     Ok(())
 }
 

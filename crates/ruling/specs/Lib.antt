@@ -3,6 +3,7 @@ pub mod Trees
 pub mod Meanings
 pub mod Questions
 pub mod Checks
+pub mod Layers
 pub mod Refusals
 pub mod KindLists
 pub mod Listed

@@ -1,3 +1,8 @@
+ghost use Rattle.std.specs.Prelude.{Some};
+ghost use Rattle.ruling.specs.Layers.{layer_text};
+
+use std::fmt;
+
 // The layer that finds a fault.
 #[derive(Clone, Copy, Debug, PartialEq, Eq)]
 pub enum Layer {
@@ -13,4 +18,19 @@ pub enum Layer {
     Book,
     // a buffer or a stack that the caller lends
     Buffer,
+}
+
+impl fmt::Display for Layer {
+    ghost output = { λ layer. Some (layer_text layer) };
+
+    fn fmt<W: fmt::Write>(&self, f: &mut fmt::Formatter<W>) -> fmt::Result {
+        f.write_str(match self {
+            Layer::Kinds => "kinds",
+            Layer::Table => "table",
+            Layer::Ruling => "ruling",
+            Layer::Record => "record",
+            Layer::Book => "book",
+            Layer::Buffer => "buffer",
+        })
+    }
 }

@@ -1,5 +1,5 @@
 -- What a line of a script says.
-use Rattle.std.specs.Prelude.{ℕ, cond, List, [], ◌∷◌, Some, None, vec_items, codes, Option}
+use Rattle.std.specs.Prelude.{ℕ, List, [], ◌∷◌, Some, None, vec_items, find, Option}
 use Rattle.std.specs.Option.{option_map}
 use Rattle.script.specs.declared.call.Verb.{Verb}
 use Rattle.script.specs.declared.call.Verb.TheVariants.{Table, Judge, Measure, States, Rank, Target, Mark}
@@ -7,6 +7,7 @@ use Rattle.script.specs.declared.call.Call.{Call}
 use Rattle.script.specs.declared.call.Call.TheVariants as call
 use Rattle.script.specs.declared.call.Line.{Line}
 use Rattle.script.specs.declared.call.Line.TheVariants as line
+use Rattle.script.specs.Verbs.{word_of, verbs}
 use Rattle.script.specs.Words.{words_of, same_word}
 use Rattle.script.specs.Arguments.{given, one_bytes, one_number, three_numbers, bytes_and_room}
 
@@ -26,15 +27,9 @@ pub data Said : Type 0 where
   no_call : Said
   order : Order → Said
 
--- The word that begins a call.
+-- The verb that a word stands for; none where no call begins with it.
 abbrev pub verb_of : List ℕ → Option Verb
-verb_of w = cond (same_word w (codes "table")) (Some Table)
-    (cond (same_word w (codes "judge")) (Some Judge)
-    (cond (same_word w (codes "measure")) (Some Measure)
-    (cond (same_word w (codes "states")) (Some States)
-    (cond (same_word w (codes "rank")) (Some Rank)
-    (cond (same_word w (codes "target")) (Some Target)
-    (cond (same_word w (codes "mark")) (Some Mark) None))))))
+verb_of w = find (λ v. same_word w (word_of v)) verbs
 
 abbrev pub alone : List (List ℕ) → Order → Option Order
 alone [] o = Some o

@@ -1,20 +1,10 @@
 -- How an answer is written.
 use Rattle.std.specs.Prelude.{ℕ, Bool, true, false, List, ◌++◌, codes, decimal}
-use Rattle.ruling.specs.declared.layer.Layer.{Layer}
-use Rattle.ruling.specs.declared.layer.Layer.TheVariants.{Kinds, Table, Ruling, Record, Book, Buffer}
 use Rattle.ruling.specs.declared.refusal.Notice.{Notice}
+use Rattle.ruling.specs.Layers.{layer_text}
 use Rattle.ruling.specs.Refusals.{told}
 use Rattle.script.specs.declared.answer.Answer.{Answer}
 use Rattle.script.specs.declared.answer.Answer.TheVariants.{Kept, Verdict, Measured, Number, Nothing, Refused, NoCall}
-
--- The name of a layer.
-abbrev pub layer_text : Layer → List ℕ
-layer_text Kinds = codes "kinds"
-layer_text Table = codes "table"
-layer_text Ruling = codes "ruling"
-layer_text Record = codes "record"
-layer_text Book = codes "book"
-layer_text Buffer = codes "buffer"
 
 -- A refusal: its number, place and layer.
 abbrev pub notice_text : Notice → List ℕ

@@ -1,6 +1,6 @@
 -- The words of a script's line.
-use Rattle.std.specs.Prelude.{◌≡◌, ℕ, Bool, true, false, cond, ◌&&◌, ◌||◌, List, [], ◌∷◌, ◌++◌, Some, None, Option, ◌==◌}
-use Rattle.std.specs.Borrow.{Bor}
+use Rattle.std.specs.Prelude.{ℕ, Bool, not, cond, ◌||◌, List, [], ◌∷◌, ◌++◌, ◌==◌}
+use Rattle.std.specs.Str.{bytes_eq}
 
 -- Space, tab, line feed and carriage return are blank.
 abbrev pub is_blank : ℕ → Bool
@@ -9,6 +9,13 @@ is_blank c = c == 32 || (c == 9 || (c == 10 || c == 13))
 -- What follows the sign # is a comment.
 abbrev pub is_comment : ℕ → Bool
 is_comment c = c == 35
+
+-- Blanks stand before a word; it ends before a blank or a comment.
+abbrev pub not_blank : ℕ → Bool
+not_blank c = not (is_blank c)
+
+abbrev pub ends_word : ℕ → Bool
+ends_word c = is_blank c || is_comment c
 
 -- A word that ends before these words; no word is empty.
 abbrev pub ended : List ℕ → List (List ℕ) → List (List ℕ)
@@ -24,14 +31,6 @@ words_after w (c ∷ cs) = cond (is_comment c) (ended w []) (cond (is_blank c) (
 abbrev pub words_of : List ℕ → List (List ℕ)
 words_of line = words_after [] line
 
--- The answer r to a call for the next of these words, after which those words are left.
-abbrev pub Next : List (List ℕ) → List (List ℕ) → Option (Bor (List ℕ)) → Type 0
-Next ws left None = (ws ≡ []) × (left ≡ [])
-Next ws left (Some w) = ws ≡ w.now ∷ left
-
 -- Two words are the same.
 abbrev pub same_word : List ℕ → List ℕ → Bool
-same_word [] [] = true
-same_word [] (y ∷ ys) = false
-same_word (x ∷ xs) [] = false
-same_word (x ∷ xs) (y ∷ ys) = x == y && same_word xs ys
+same_word = bytes_eq

@@ -1,7 +1,7 @@
 use ruling::Refusal;
 
 // The answer to a line of a script.
-#[derive(Clone, Copy)]
+#[derive(Clone, Copy, Debug, PartialEq, Eq)]
 pub enum Answer {
     // a table was kept, with so many states
     Kept(u16),

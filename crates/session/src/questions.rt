@@ -19,10 +19,8 @@ pub(super) fn ask_judge<R: Ruling>(
     ensures { IfOk result (λ a. a ≡ verdict_or (judged_bytes (R.Ruling.meaning ruling.now).plain bytes.now room)) }
 {
     let mut slots = Vec::from_elem(heap, 0u16, room as usize)?;
-    match judge_bytes(ruling, bytes, slots.as_mut_slice()) {
-        Ok(yes) => Ok(Answer::Verdict(yes)),
-        Err(refusal) => Ok(Answer::Refused(refusal)),
-    }
+    let verdict = judge_bytes(ruling, bytes, slots.as_mut_slice());
+    Ok(verdict.map_or_else(Answer::Refused, Answer::Verdict))
 }
 
 fn measure_bytes<R: Ruling>(ruling: &R, bytes: &[u8], slots: &mut [Size]) -> Result<Size, Refusal>
@@ -50,50 +48,42 @@ pub(super) fn ask_measure<R: Ruling>(
         },
         room as usize,
     )?;
-    match measure_bytes(ruling, bytes, slots.as_mut_slice()) {
-        Ok(size) => Ok(Answer::Measured {
+    let size = measure_bytes(ruling, bytes, slots.as_mut_slice());
+    Ok(size.map_or_else(
+        Answer::Refused,
+        |size| Answer::Measured {
             nodes: size.nodes,
             height: size.height,
-        }),
-        Err(refusal) => Ok(Answer::Refused(refusal)),
-    }
+        },
+    ))
 }
 
 // The rank of a kind of any width.
 pub(super) fn ask_rank<R: Ruling>(ruling: &R, kind: u32) -> Answer
     ensures { result ≡ number_or (rank_in (R.Ruling.meaning ruling.now).plain.kinds kind) }
 {
-    if kind > 255 {
-        return Answer::Nothing;
-    }
-    match ruling.rank(kind as u8) {
-        Some(rank) => Answer::Number(rank as u16),
-        None => Answer::Nothing,
-    }
+    let kind = u8::try_from(kind).ok();
+    let rank = kind.and_then(|kind| ruling.rank(kind));
+    rank.map_or(Answer::Nothing, |rank| Answer::Number(rank.into()))
 }
 
 // The target of numbers of any width.
 pub(super) fn ask_target<R: Ruling>(ruling: &R, kind: u32, a: u32, b: u32) -> Answer
     ensures { result ≡ number_or (targeted (R.Ruling.meaning ruling.now).plain kind a b) }
 {
-    if kind > 255 || a > 65535 || b > 65535 {
+    let (Ok(kind), Ok(a), Ok(b)) = (u8::try_from(kind), u16::try_from(a), u16::try_from(b)) else {
         return Answer::Nothing;
-    }
-    match ruling.target(kind as u8, a as u16, b as u16) {
-        Some(state) => Answer::Number(state),
-        None => Answer::Nothing,
-    }
+    };
+    ruling
+        .target(kind, a, b)
+        .map_or(Answer::Nothing, Answer::Number)
 }
 
 // The mark of a state of any width.
 pub(super) fn ask_mark<R: Ruling>(ruling: &R, state: u32) -> Answer
     ensures { result ≡ mark_or (marked (R.Ruling.meaning ruling.now).plain state) }
 {
-    if state > 65535 {
-        return Answer::Nothing;
-    }
-    match ruling.mark(state as u16) {
-        Some(yes) => Answer::Verdict(yes),
-        None => Answer::Nothing,
-    }
+    let state = u16::try_from(state).ok();
+    let mark = state.and_then(|state| ruling.mark(state));
+    mark.map_or(Answer::Nothing, Answer::Verdict)
 }

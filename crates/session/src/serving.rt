@@ -1,6 +1,8 @@
-ghost use Rattle.std.specs.Prelude.{◌≡◌, is_ok, IfOk, if◌then◌else◌, None};
+ghost use Rattle.std.specs.Prelude.{◌≡◌, is_ok, IfOk, if◌then◌else◌, None, MatchOption};
+ghost use Rattle.std.specs.Fn.{FnOnceReturnsAt};
+ghost use Rattle.table.specs.declared.flat_table.FlatTable.{FlatTable};
 ghost use Rattle.table.specs.TableFiles.{table_fault};
-ghost use Rattle.script.specs.Calls.{judge, measure, states, rank, target, mark, order_in, line_says};
+ghost use Rattle.script.specs.Calls.{order_in, line_says};
 ghost use Rattle.session.specs.Sessions.{file_in, table_answer, table_kept, answer_to, kept_after, line_answer, line_kept};
 
 use super::kept::KeptTable;
@@ -10,14 +12,6 @@ use ruling::Ruling;
 use script::{Answer, Call, Line, read_line};
 use std::alloc::{AllocError, Global};
 use table::{FlatTable, check_table};
-
-impl KeptTable {
-    fn flat(&self) -> FlatTable<'_>
-        ensures { result.bytes.now ≡ self.now.bytes.items }
-    {
-        FlatTable::make(self.bytes.as_slice(), self.states)
-    }
-}
 
 impl Session {
     // A session that keeps no table yet.
@@ -41,57 +35,17 @@ impl Session {
         }
     }
 
-    fn judge(&self, heap: Global, bytes: &[u8], room: u32) -> Result<Answer, AllocError>
-        ensures { IfOk result (λ a. a ≡ answer_to (file_in self.now) (judge bytes.now room)) }
+    // What the kept table answers to a question; it is no call where no table is kept.
+    fn ask<F: FnOnce(&FlatTable<'_>) -> Result<Answer, AllocError>>(
+        &self,
+        question: F,
+    ) -> Result<Answer, AllocError>
+        requires { F.IsAlwaysCallable question }
+        ensures { MatchOption (file_in self.now) (result ≡ Ok Answer.NoCall) (λ f. (t : FlatTable) × (t.bytes.now ≡ f) × FnOnceReturnsAt F.FnOnce question t result) }
     {
         match &self.kept {
-            Some(table) => ask_judge(heap, &table.flat(), bytes, room),
+            Some(table) => question(&table.flat()),
             None => Ok(Answer::NoCall),
-        }
-    }
-
-    fn measure(&self, heap: Global, bytes: &[u8], room: u32) -> Result<Answer, AllocError>
-        ensures { IfOk result (λ a. a ≡ answer_to (file_in self.now) (measure bytes.now room)) }
-    {
-        match &self.kept {
-            Some(table) => ask_measure(heap, &table.flat(), bytes, room),
-            None => Ok(Answer::NoCall),
-        }
-    }
-
-    fn states(&self) -> Answer
-        ensures { result ≡ answer_to (file_in self.now) states }
-    {
-        match &self.kept {
-            Some(table) => Answer::Number(table.states),
-            None => Answer::NoCall,
-        }
-    }
-
-    fn rank(&self, kind: u32) -> Answer
-        ensures { result ≡ answer_to (file_in self.now) (rank kind) }
-    {
-        match &self.kept {
-            Some(table) => ask_rank(&table.flat(), kind),
-            None => Answer::NoCall,
-        }
-    }
-
-    fn target(&self, kind: u32, a: u32, b: u32) -> Answer
-        ensures { result ≡ answer_to (file_in self.now) (target kind a b) }
-    {
-        match &self.kept {
-            Some(table) => ask_target(&table.flat(), kind, a, b),
-            None => Answer::NoCall,
-        }
-    }
-
-    fn mark(&self, state: u32) -> Answer
-        ensures { result ≡ answer_to (file_in self.now) (mark state) }
-    {
-        match &self.kept {
-            Some(table) => ask_mark(&table.flat(), state),
-            None => Answer::NoCall,
         }
     }
 
@@ -102,12 +56,16 @@ impl Session {
     {
         match call {
             Call::Table(bytes) => Ok(self.keep(bytes)),
-            Call::Judge(bytes, room) => self.judge(heap, bytes.as_slice(), room),
-            Call::Measure(bytes, room) => self.measure(heap, bytes.as_slice(), room),
-            Call::States => Ok(self.states()),
-            Call::Rank(kind) => Ok(self.rank(kind)),
-            Call::Target(kind, a, b) => Ok(self.target(kind, a, b)),
-            Call::Mark(state) => Ok(self.mark(state)),
+            Call::Judge(bytes, room) => {
+                self.ask(|table| ask_judge(heap, table, bytes.as_slice(), room))
+            }
+            Call::Measure(bytes, room) => {
+                self.ask(|table| ask_measure(heap, table, bytes.as_slice(), room))
+            }
+            Call::States => self.ask(|table| Ok(Answer::Number(table.states()))),
+            Call::Rank(kind) => self.ask(|table| Ok(ask_rank(table, kind))),
+            Call::Target(kind, a, b) => self.ask(|table| Ok(ask_target(table, kind, a, b))),
+            Call::Mark(state) => self.ask(|table| Ok(ask_mark(table, state))),
         }
     }
 
@@ -119,7 +77,7 @@ impl Session {
         match read_line(heap, line)? {
             Line::Blank => Ok(None),
             Line::NoCall => Ok(Some(Answer::NoCall)),
-            Line::Call(call) => Ok(Some(self.serve(heap, call)?)),
+            Line::Call(call) => self.serve(heap, call).map(Some),
         }
     }
 }

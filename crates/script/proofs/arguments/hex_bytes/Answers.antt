@@ -1,34 +1,17 @@
-use Rattle.std.proofs.Common.{◌≡◌, ℕ, ◌+◌, ◌*◌, ◌<◌, ◌≤◌, List, [], ◌∷◌, ◌++◌, length, drop, Some, None, vec_items, sym, ap, ◌∙◌, append-nil, arith}
-use Rattle.script.specs.Arguments.{hex_bytes}
-use Rattle.script.proofs.Numbers.{onto, byte_more, onto_more, half_left, none_left}
+use Rattle.std.proofs.Common.{◌≡◌, ◌∷◌, length, Some, vec_items, sym, ap, ◌∙◌, arith, rules}
+use Rattle.std.specs.Slice.Iter.{chunks_rest}
+use Rattle.script.specs.Arguments.{given, hex_bytes}
+use Rattle.script.proofs.Numbers.{onto, pair_more, onto_more}
 use Rattle.script.proofs.arguments.hex_bytes.Goals as goal
 
-pub returns-in_default : goal.returns-in_default
-returns-in_default c =
-    let l : 2 * c.loop-i.i + 1 < length c.args.word.now = omega arith in
-    sym (c.loop-i.invariant ∙ ap (onto (vec_items c.loop-i.bytes)) (byte_more c.args.word.now (2 * c.loop-i.i) None l (sym c.in_default.ensures)))
-
-pub loop-i-preserved : goal.loop-i-preserved
-loop-i-preserved c =
-    let w = c.args.word.now in
-    let xs = vec_items c.loop-i.bytes in
-    let l : 2 * c.loop-i.i + 1 < length w = omega arith in
-    let e : 2 * c.loop-i.i + 2 ≡ 2 * (c.loop-i.i + 1) = omega arith in
-    let m = c.in_ok-push.ensures.items in
-    c.loop-i.invariant
-    ∙ (ap (onto xs) (byte_more w (2 * c.loop-i.i) (Some c.in-Some.b) l (sym c.in-Some.ensures))
-    ∙ (onto_more xs c.in-Some.b (hex_bytes (drop (2 * c.loop-i.i + 2) w))
-    ∙ (ap (λ (i : ℕ). onto (xs ++ (c.in-Some.b ∷ [])) (hex_bytes (drop i w))) e
-    ∙ ap (λ ys. onto ys (hex_bytes (drop (2 * (c.loop-i.i + 1)) w))) (sym m))))
-
-pub returns-then-word-eq1 : goal.returns-then-word-eq1
-returns-then-word-eq1 c =
-    let e : 2 * c.loop-i.i + 1 ≡ length c.args.word.now = omega arith in
-    sym (c.loop-i.invariant ∙ ap (onto (vec_items c.loop-i.bytes)) (half_left c.args.word.now (2 * c.loop-i.i) e))
-
-pub returns : goal.returns
-returns c =
-    let l : length c.args.word.now ≤ 2 * c.loop-i.i = omega arith in
-    sym (c.loop-i.invariant
-    ∙ (ap (onto (vec_items c.loop-i.bytes)) (none_left c.args.word.now (2 * c.loop-i.i) l)
-    ∙ ap (λ (xs : List ℕ). Some xs) (append-nil (vec_items c.loop-i.bytes))))
+pub loop-pair-preserved : goal.loop-pair-preserved
+loop-pair-preserved c =
+    let left = chunks_rest c.next.new.self in
+    let s = c.in-Some.ensures.steps in
+    let two : length c.in-Some.pair.now ≡ 2 = omega arith in
+    let p = pair_more (chunks_rest c.loop-pair.pair-iterator) c.in-Some.pair.now left s.1.0 two in
+    let e = c.loop-pair.invariant.3
+    ∙ ap (onto (vec_items c.loop-pair.bytes)) (p ∙ ap (λ o. given o (λ b. given (hex_bytes left) (λ bs. Some (b ∷ bs)))) (sym c.in-Some-hex_byte.ensures))
+    ∙ onto_more (vec_items c.loop-pair.bytes) c.in-Some-hex_byte.byte (hex_bytes left)
+    ∙ ap (λ xs. onto xs (hex_bytes left)) (sym c.in_ok-push.ensures.items) in
+    (search rules, search rules, s.0 ∙ c.loop-pair.invariant.2, e)
