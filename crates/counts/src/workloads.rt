@@ -1,25 +1,21 @@
 use super::grid::Grid;
 use super::measure::measure;
-use super::outcome::Outcome;
-use super::questions::Questions;
+use super::measurement::Measurement;
 use super::total::Total;
 use anyhow::anyhow;
-use samples::{Arithmetic, Opening, Product, Rules, Sample, open};
+use samples::{Arithmetic, Marking, Opening, Product, Rules, Sample, open};
 use std::alloc::{AllocError, Global};
 
 // Reduces a sample and prints its line.
 fn report<T: Rules>(rt: &HostRuntime, name: &str, sample: &Sample<T>) -> anyhow::Result<()> {
-    let (questions, outcome) = measure(sample);
-    println!(rt; "{name}: {questions}; {outcome}")?;
+    let measured = measure(sample);
+    println!(rt; "{name}: {measured}")?;
     Ok(())
 }
 
 // The kinds of these ranks.
 fn kinds_of(ranks: &[u8]) -> anyhow::Result<Opening> {
-    match open(ranks) {
-        Ok(opening) => Ok(opening),
-        Err(_) => Err(anyhow!("no kind list")),
-    }
+    open(ranks).map_err(|_| anyhow!("no kind list"))
 }
 
 // A random table of 32 states over these kinds.
@@ -36,7 +32,7 @@ fn report_pair(rt: &HostRuntime, kinds: Opening) -> anyhow::Result<()> {
     let product = Product {
         left: &left,
         right: &right,
-        both: true,
+        marking: Marking::Both,
     };
     report(rt, "pair", &Sample::make(kinds, 1056, product))
 }
@@ -53,45 +49,44 @@ fn report_rule(
 
 // Random tables, one for each seed.
 fn report_tables(rt: &HostRuntime, kinds: Opening) -> anyhow::Result<()> {
-    let mut total = Total::none();
+    let mut total = Total::default();
     for seed in 1..1001u32 {
-        let table = random_table(rt.alloc(), kinds, seed)?;
-        let (questions, outcome) = measure(&table);
-        total.add(&questions, outcome);
+        total += measure(&random_table(rt.alloc(), kinds, seed)?);
     }
     println!(rt; "random tables, seeds 1 to 1000: {total}")?;
     Ok(())
 }
 
 // A random table and the record of a seed: records that either accepts.
-fn admit(heap: Global, kinds: Opening, seed: u32) -> Result<(Questions, Outcome), AllocError> {
+fn admit(heap: Global, kinds: Opening, seed: u32) -> Result<Measurement, AllocError> {
     let left = random_table(heap, kinds, 1)?;
     let grid = Grid::of_record(heap, seed)?;
     let right = Sample::make(kinds, 32, grid);
     let product = Product {
         left: &left,
         right: &right,
-        both: false,
+        marking: Marking::Either,
     };
     Ok(measure(&Sample::make(kinds, 1024, product)))
 }
 
 // The record of seed 3 is the first that needs too many states.
 fn report_admit(rt: &HostRuntime, kinds: Opening) -> anyhow::Result<()> {
-    let (questions, outcome) = admit(rt.alloc(), kinds, 3)?;
-    println!(rt; "admit: {questions}; {outcome}")?;
+    let measured = admit(rt.alloc(), kinds, 3)?;
+    println!(rt; "admit: {measured}")?;
     Ok(())
 }
 
 // Admits of a record into a random table, one record for each seed; those that need too many states apart.
 fn report_admits(rt: &HostRuntime, kinds: Opening) -> anyhow::Result<()> {
-    let mut fitting = Total::none();
-    let mut refused = Total::none();
+    let mut fitting = Total::default();
+    let mut refused = Total::default();
     for seed in 1..1001u32 {
-        let (questions, outcome) = admit(rt.alloc(), kinds, seed)?;
-        match outcome {
-            Outcome::States(_) => fitting.add(&questions, outcome),
-            Outcome::Need(_) => refused.add(&questions, outcome),
+        let measured = admit(rt.alloc(), kinds, seed)?;
+        if measured.states.is_ok() {
+            fitting += measured;
+        } else {
+            refused += measured;
         }
     }
     println!(rt; "admits, seeds 1 to 1000, fitting: {fitting}")?;
