@@ -2,9 +2,10 @@ use super::draws::Draws;
 use super::grid::Grid;
 use std::alloc::{AllocError, Global};
 
-// The number of kinds of the record, and the state of what is no part of it.
+// The number of kinds of the record.
 const KINDS: u8 = 4;
 
+// The state of what is no part of it.
 const NO_PART: u16 = 31;
 
 fn rank_of(kind: u8) -> usize {

@@ -1,3 +1,5 @@
+ghost use Rattle.std.specs.Prelude.{◌<◌, ◌≤◌};
+
 use super::grid::Grid;
 use super::measure::measure;
 use super::measurement::Measurement;
@@ -18,17 +20,23 @@ fn kinds_of(ranks: &[u8]) -> anyhow::Result<Opening> {
     open(ranks).map_err(|_| anyhow!("no kind list"))
 }
 
-// A random table of 32 states over these kinds.
-fn random_table(heap: Global, kinds: Opening, seed: u32) -> Result<Sample<Grid>, AllocError> {
-    let grid = Grid::drawn(heap, &kinds, 32, seed)?;
-    Ok(Sample::make(kinds, 32, grid))
+// A random table of so many states over these kinds.
+fn random_table(
+    heap: Global,
+    kinds: Opening,
+    states: u16,
+    seed: u32,
+) -> Result<Sample<Grid>, AllocError>
+    requires { (0 < states) × (states ≤ 1089) }
+{
+    let grid = Grid::drawn(heap, &kinds, states, seed)?;
+    Ok(Sample::make(kinds, states, grid))
 }
 
 // Two random tables, of 32 and of 33 states, and records that both accept.
 fn report_pair(rt: &HostRuntime, kinds: Opening) -> anyhow::Result<()> {
-    let left = random_table(rt.alloc(), kinds, 1)?;
-    let grid = Grid::drawn(rt.alloc(), &kinds, 33, 2)?;
-    let right = Sample::make(kinds, 33, grid);
+    let left = random_table(rt.alloc(), kinds, 32, 1)?;
+    let right = random_table(rt.alloc(), kinds, 33, 2)?;
     let product = Product {
         left: &left,
         right: &right,
@@ -51,7 +59,7 @@ fn report_rule(
 fn report_tables(rt: &HostRuntime, kinds: Opening) -> anyhow::Result<()> {
     let mut total = Total::default();
     for seed in 1..1001u32 {
-        total += measure(&random_table(rt.alloc(), kinds, seed)?);
+        total += measure(&random_table(rt.alloc(), kinds, 32, seed)?);
     }
     println!(rt; "random tables, seeds 1 to 1000: {total}")?;
     Ok(())
@@ -59,7 +67,7 @@ fn report_tables(rt: &HostRuntime, kinds: Opening) -> anyhow::Result<()> {
 
 // A random table and the record of a seed: records that either accepts.
 fn admit(heap: Global, kinds: Opening, seed: u32) -> Result<Measurement, AllocError> {
-    let left = random_table(heap, kinds, 1)?;
+    let left = random_table(heap, kinds, 32, 1)?;
     let grid = Grid::of_record(heap, seed)?;
     let right = Sample::make(kinds, 32, grid);
     let product = Product {
@@ -98,7 +106,7 @@ fn report_admits(rt: &HostRuntime, kinds: Opening) -> anyhow::Result<()> {
 pub(super) fn run(rt: &HostRuntime) -> anyhow::Result<()> {
     let four = kinds_of(&[0, 0, 1, 2])?;
     let joins = kinds_of(&[0, 2, 2, 2, 2, 2, 2, 2, 2, 2, 2, 2, 2, 2, 2, 2])?;
-    report(rt, "random table", &random_table(rt.alloc(), four, 1)?)?;
+    report(rt, "random table", &random_table(rt.alloc(), four, 32, 1)?)?;
     report_pair(rt, joins)?;
     report_admit(rt, four)?;
     report_rule(rt, "counting", joins, Arithmetic::Counting)?;
