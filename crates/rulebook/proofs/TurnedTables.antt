@@ -1,5 +1,6 @@
 -- A reduced table with yes and no exchanged is the reduced table of all other records.
 use Rattle.std.proofs.Common.{◌≡◌, ℕ, ◌<◌, ◌≤◌, Bool, true, false, cond, not, ltb, ltb-false, List, ◌++◌, take, drop, length, length-append, length-drop, get_or, Some, None, Ok, unwrap_or, sym, refl, ap, ◌∙◌, ap₂, ◌-◌, arith}
+use Rattle.std.proofs.Math.Bool.{not-not}
 use Rattle.std.proofs.Math.ListN.{get_or-append}
 use Rattle.std.proofs.lemmas.List.{get_or-append_right, get_or-drop, get_or-take, length-take-le}
 use mathlib.Core.Logic.{∥∥₁_elim, ∥∥₁_prop}
@@ -20,12 +21,6 @@ use Rattle.rulebook.specs.Outcomes.{TableFor}
 use Rattle.rulebook.specs.Histories.{History, called, Stands, Follows}
 use Rattle.rulebook.proofs.Stepping.{done}
 use Rattle.rulebook.proofs.Gained.{reduced_of}
-
-not_one : (x y : Bool) → not x ≡ not y → x ≡ y
-not_one true true e = refl
-not_one true false e = sym e
-not_one false true e = sym e
-not_one false false e = refl
 
 module _ (m : Meaning) (f : ℕ → Bool) (flip : (s : ℕ) → s < m.states → f s ≡ not (m.mark s)) (red : Reduced m.kinds m) where
   abbrev turned : Meaning
@@ -58,8 +53,9 @@ module _ (m : Meaning) (f : ℕ → Bool) (flip : (s : ℕ) → s < m.states →
     complete = red.complete;
     numbered = λ s l. let w = red.numbered s l in
         record { kind = w.kind; first = w.first; second = w.second; fits = w.fits; goes = w.goes; before = w.before };
-    distinct = λ p q hp hq e. red.distinct p q hp hq (λ s o. not_one (m.mark (around m s p)) (m.mark (around m s q))
-        (sym (mark_around s o p hp) ∙ (e s o ∙ mark_around s o q hq)));
+    distinct = λ p q hp hq e. red.distinct p q hp hq (λ s o.
+        let both : not (m.mark (around m s p)) ≡ not (m.mark (around m s q)) = sym (mark_around s o p hp) ∙ (e s o ∙ mark_around s o q hq) in
+        sym (not-not (m.mark (around m s p))) ∙ (ap not both ∙ not-not (m.mark (around m s q))));
   }
 
   turned_table : (S : Set) → Rules m.kinds S m → TableFor m.kinds (others S) turned
