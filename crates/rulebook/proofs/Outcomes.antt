@@ -14,8 +14,9 @@ use Rattle.ruling.specs.ReducedTables.{Equal}
 use Rattle.ruling.proofs.ArgumentLists.{equal_marked, equal_targeted}
 use Rattle.ruling.proofs.Files.{same_file}
 use Rattle.ruling.proofs.Needing.{one_need}
+use Rattle.encoder.specs.Encodings.{room_fault}
 use Rattle.rulebook.specs.Calls.{Change, Question, judge, write, states, rank, target, mark, change, ask, Answer, count, verdict, wrote, found, marked, refused, changed}
-use Rattle.rulebook.specs.Outcomes.{room_fault, unless_fault, early_fault, reply, Stays, Changes, Checked, Outcome}
+use Rattle.rulebook.specs.Outcomes.{unless_fault, early_fault, reply, Stays, Changes, Checked, Outcome}
 use Rattle.rulebook.specs.Histories.{History, opened, called, kinds_of, calls_of, Reckons, Twelves}
 use Rattle.rulebook.specs.Laws.{OneOutcome, OneReckoning}
 use Rattle.rulebook.proofs.TablesFor.{one_table_for}
