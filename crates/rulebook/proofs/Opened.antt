@@ -1,12 +1,11 @@
 -- The table with one state, marked no, is the table of the empty set.
-use Rattle.std.proofs.Common.{◌≡◌, ℕ, zero, suc, ◌<◌, Bool, true, false, cond, ◌&&◌, eqb, ltb, leb, List, length, get_or, is_some, Some, None, Option, unwrap_or, refl, subst, arith, ltb-true, eq-eqb, eqb-true, leb-true}
+use Rattle.std.proofs.Common.{◌≡◌, ℕ, zero, suc, ◌<◌, Bool, true, false, cond, eqb, ltb, leb, List, length, get_or, is_some, Some, None, Option, unwrap_or, refl, subst, arith, ltb-true, eq-eqb, eqb-true, leb-true}
 use Rattle.std.proofs.lemmas.Bool.{and_parts}
 use Rattle.ruling.specs.Trees.{Kind}
 use Rattle.ruling.specs.Meanings.{Meaning, Fits, none, one, two, Complete, run}
 use Rattle.ruling.specs.Checks.{lowest}
 use Rattle.ruling.specs.declared.refusal.Refusal.{Refusal}
 use Rattle.ruling.specs.KindLists.{KindList, has_leaf, count_fault, rank_fault, list_fault, leaf_fault, opening_fault}
-use Rattle.ruling.specs.Questions.{fitting, targeted, marked}
 use Rattle.ruling.specs.Sets.{empty}
 use Rattle.ruling.specs.ReducedTables.{Next, Before}
 use Rattle.ruling.proofs.Lowest.{some_lowest, none_lowest}
@@ -70,20 +69,10 @@ module _ (ks : List ℕ) (m : Meaning) (leafy : has_leaf ks ≡ true) (kinds : m
     reduced = record { complete = complete; numbered = begin; distinct = λ p q hp hq e. omega arith };
   }
 
--- Fresh cells and marks hold the answers of one state, marked no.
-pub empty_mark : (ks : List ℕ) (s : ℕ) → unwrap_or (marked (empty_meaning ks) s) false ≡ false
-empty_mark ks s = go (ltb s 1)
-  where
-    go : (b : Bool) → unwrap_or (cond b (Some false) None) false ≡ false
-    go true = refl
-    go false = refl
-
-pub empty_cell : (ks : List ℕ) (k a b : ℕ) → unwrap_or (targeted (empty_meaning ks) k a b) 0 ≡ 0
-empty_cell ks k a b = go (ltb k (length ks) && fitting 1 (get_or ks k 0) a b)
-  where
-    go : (t : Bool) → ◌≡◌ {A = ℕ} (unwrap_or (cond t (Some 0) None) 0) 0
-    go true = refl
-    go false = refl
+-- Fresh cells and marks hold the answers of one state, marked no: the value there is the one where there is no answer.
+pub either_way : {A : Type 0} (b : Bool) (d : A) → unwrap_or (cond b (Some d) None) d ≡ d
+either_way true d = refl
+either_way false d = refl
 
 cond_none : (t : Bool) (r : Refusal) → cond t None (Some r) ≡ None → t ≡ true
 cond_none true r e = refl
