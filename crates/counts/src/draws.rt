@@ -4,13 +4,15 @@ pub(super) struct Draws {
     x: u32,
 }
 
-impl Draws {
-    pub(super) fn from(seed: u32) -> Draws {
+impl From<u32> for Draws {
+    fn from(seed: u32) -> Draws {
         Draws { x: seed }
     }
+}
 
+impl Draws {
     pub(super) fn draw(&mut self) -> u16 {
         self.x = self.x.wrapping_mul(69069).wrapping_add(1);
-        (self.x / 65536) as u16
+        (self.x >> 16) as u16
     }
 }

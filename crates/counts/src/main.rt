@@ -5,7 +5,7 @@ mod drawing;
 mod draws;
 mod grid;
 mod measure;
-mod outcome;
+mod measurement;
 mod questions;
 mod record_grid;
 mod tally;

@@ -1,25 +1,22 @@
 -- The table with one state, marked no, is the table of the empty set.
-use Rattle.std.proofs.Common.{◌≡◌, ℕ, zero, suc, ◌<◌, Bool, true, false, cond, ◌&&◌, eqb, ltb, leb, List, length, get_or, is_some, Some, None, Option, unwrap_or, refl, subst, arith, ltb-true, eq-eqb, eqb-true, leb-true}
+use Rattle.std.proofs.Common.{◌≡◌, ℕ, zero, suc, ◌<◌, Bool, true, false, cond, eqb, ltb, leb, List, length, get_or, is_some, Some, None, Option, unwrap_or, refl, subst, arith, ltb-true, eq-eqb, eqb-true, leb-true}
 use Rattle.std.proofs.lemmas.Bool.{and_parts}
 use Rattle.ruling.specs.Trees.{Kind}
 use Rattle.ruling.specs.Meanings.{Meaning, Fits, none, one, two, Complete, run}
-use Rattle.ruling.specs.Checks.{lowest, first}
+use Rattle.ruling.specs.Checks.{lowest}
 use Rattle.ruling.specs.declared.refusal.Refusal.{Refusal}
 use Rattle.ruling.specs.KindLists.{KindList, has_leaf, count_fault, rank_fault, list_fault, leaf_fault, opening_fault}
-use Rattle.ruling.specs.Questions.{fitting, targeted, marked}
 use Rattle.ruling.specs.Sets.{empty}
 use Rattle.ruling.specs.ReducedTables.{Next, Before}
 use Rattle.ruling.proofs.Lowest.{some_lowest, none_lowest}
 use Rattle.ruling.proofs.Lists.{small_ranks}
+use Rattle.table.specs.Faults.{first_none}
 use Rattle.encoder.specs.declared.table_data.TableData.{TableData}
 use Rattle.encoder.specs.Tables.{kinds_held, table_meaning, CopyOf}
 use Rattle.encoder.proofs.Copies.{held_kinds, held_count, held_mark, held_target, clean}
 use Rattle.ruling.proofs.Smallest.{run_below}
 use Rattle.rulebook.specs.Outcomes.{TableFor}
 use Rattle.rulebook.specs.Tables.{empty_meaning}
-
-true_false : (b : Bool) → b ≡ true → b ≡ false → ⊥
-true_false b x y = let z : ◌≡◌ {A = ℕ} 0 1 = cc in omega arith
 
 -- The lowest kind of rank 0.
 record Leaf (ks : List ℕ) : Type 0 where
@@ -34,16 +31,16 @@ a_leaf ks h = go (lowest (λ k. eqb (get_or ks k 0) 0) 0 (length ks)) refl h
     go (Some k) e f = let w = some_lowest (λ k. eqb (get_or ks k 0) 0) 0 (length ks) k e in record {
       at = k;
       kind = (omega (arith, w.high), eqb-true (get_or ks k 0) 0 w.passes);
-      lowest_one = λ j l q. true_false _ (eq-eqb (get_or ks j 0) 0 q.1) (w.before j (omega arith) l);
+      lowest_one = λ j l q. cc (eq-eqb (get_or ks j 0) 0 q.1, w.before j (omega arith) l);
     }
-    go None e f = absurd (true_false false f refl)
+    go None e f = cc
 
 pub leaf_has : (ks : List ℕ) (k : ℕ) → Kind ks k 0 → has_leaf ks ≡ true
 leaf_has ks k kind = go (lowest (λ k. eqb (get_or ks k 0) 0) 0 (length ks)) refl
   where
     go : (o : Option ℕ) → lowest (λ k. eqb (get_or ks k 0) 0) 0 (length ks) ≡ o → is_some o ≡ true
     go (Some j) e = refl
-    go None e = absurd (true_false _ (eq-eqb (get_or ks k 0) 0 kind.1) (none_lowest (λ k. eqb (get_or ks k 0) 0) 0 (length ks) e k (omega arith) (omega (arith, kind.0))))
+    go None e = cc (eq-eqb (get_or ks k 0) 0 kind.1, none_lowest (λ k. eqb (get_or ks k 0) 0) 0 (length ks) e k (omega arith) (omega (arith, kind.0)))
 
 module _ (ks : List ℕ) (m : Meaning) (leafy : has_leaf ks ≡ true) (kinds : m.kinds ≡ ks) (single : m.states ≡ 1)
     (cells : (k a b : ℕ) → Fits ks 1 k a b → m.target k a b ≡ 0) (marks : (s : ℕ) → s < m.states → m.mark s ≡ false) where
@@ -72,28 +69,14 @@ module _ (ks : List ℕ) (m : Meaning) (leafy : has_leaf ks ≡ true) (kinds : m
     reduced = record { complete = complete; numbered = begin; distinct = λ p q hp hq e. omega arith };
   }
 
--- Fresh cells and marks hold the answers of one state, marked no.
-pub empty_mark : (ks : List ℕ) (s : ℕ) → unwrap_or (marked (empty_meaning ks) s) false ≡ false
-empty_mark ks s = go (ltb s 1)
-  where
-    go : (b : Bool) → unwrap_or (cond b (Some false) None) false ≡ false
-    go true = refl
-    go false = refl
-
-pub empty_cell : (ks : List ℕ) (k a b : ℕ) → unwrap_or (targeted (empty_meaning ks) k a b) 0 ≡ 0
-empty_cell ks k a b = go (ltb k (length ks) && fitting 1 (get_or ks k 0) a b)
-  where
-    go : (t : Bool) → ◌≡◌ {A = ℕ} (unwrap_or (cond t (Some 0) None) 0) 0
-    go true = refl
-    go false = refl
-
-first_none : (a b : Option Refusal) → first a b ≡ None → (a ≡ None) × (b ≡ None)
-first_none (Some r) b e = absurd (let z : ◌≡◌ {A = ℕ} 0 1 = cc in omega arith)
-first_none None b e = (refl, e)
+-- Fresh cells and marks hold the answers of one state, marked no: the value there is the one where there is no answer.
+pub either_way : {A : Type 0} (b : Bool) (d : A) → unwrap_or (cond b (Some d) None) d ≡ d
+either_way true d = refl
+either_way false d = refl
 
 cond_none : (t : Bool) (r : Refusal) → cond t None (Some r) ≡ None → t ≡ true
 cond_none true r e = refl
-cond_none false r e = absurd (let z : ◌≡◌ {A = ℕ} 0 1 = cc in omega arith)
+cond_none false r e = cc
 
 -- What an opening without fault leaves: a kind list with a leaf kind.
 pub opening_list : (ks : List ℕ) → opening_fault ks ≡ None → KindList ks × (has_leaf ks ≡ true)

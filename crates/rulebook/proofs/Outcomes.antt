@@ -14,8 +14,9 @@ use Rattle.ruling.specs.ReducedTables.{Equal}
 use Rattle.ruling.proofs.ArgumentLists.{equal_marked, equal_targeted}
 use Rattle.ruling.proofs.Files.{same_file}
 use Rattle.ruling.proofs.Needing.{one_need}
+use Rattle.encoder.specs.Encodings.{room_fault}
 use Rattle.rulebook.specs.Calls.{Change, Question, judge, write, states, rank, target, mark, change, ask, Answer, count, verdict, wrote, found, marked, refused, changed}
-use Rattle.rulebook.specs.Outcomes.{room_fault, unless_fault, early_fault, reply, Stays, Changes, Checked, Outcome}
+use Rattle.rulebook.specs.Outcomes.{unless_fault, early_fault, reply, Stays, Changes, Checked, Outcome}
 use Rattle.rulebook.specs.Histories.{History, opened, called, kinds_of, calls_of, Reckons, Twelves}
 use Rattle.rulebook.specs.Laws.{OneOutcome, OneReckoning}
 use Rattle.rulebook.proofs.TablesFor.{one_table_for}
@@ -53,8 +54,8 @@ one_outcome ks S S₁ S₂ (Ok (ask q)) a₁ a₂ x y =
 
 pub one_reckoning : OneReckoning
 one_reckoning (opened ks) (opened ls) S R k e x y = (refl, x ∙ sym y)
-one_reckoning (opened ks) (called g d b) S R k e x y = let z : ◌≡◌ {A = ℕ} 0 1 = cc in absurd (omega arith)
-one_reckoning (called h c a) (opened ls) S R k e x y = let z : ◌≡◌ {A = ℕ} 0 1 = cc in absurd (omega arith)
+one_reckoning (opened ks) (called g d b) S R k e x y = cc
+one_reckoning (called h c a) (opened ls) S R k e x y = cc
 one_reckoning (called h c a) (called g d b) S R k e x y =
     let ec : c ≡ d = cc in
     let er : calls_of h ≡ calls_of g = cc in
@@ -76,7 +77,7 @@ twelve ks S after c a n need e x = go x.2
     by_test : (k : ℕ) (b : Bool) → leb k 32 ≡ b → Need ks (changed S c) k → a ≡ cond b (count k) (refused (told (TooManyStates k)))
         → ((p : Notice) × (a ≡ refused p) × (p.number ≡ 12)) ↔ ((m : Meaning) → Rules ks (changed S c) m → 32 < m.states)
     by_test k true t w f = (
-      (λ o. let g = o.1 in let z : ◌≡◌ {A = ℕ} 0 1 = cc in absurd (omega arith)),
+      (λ o. cc (f, o.1)),
       (λ all. let l = all w.ruling w.rules in let s = w.states in let u = leb-true k 32 t in absurd (omega arith)),
     )
     by_test k false t w f = (

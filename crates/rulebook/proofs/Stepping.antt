@@ -1,5 +1,5 @@
 -- How a rulebook comes from one history to the next.
-use Rattle.std.proofs.Common.{◌≡◌, ℕ, ◌<◌, ◌≤◌, true, false, cond, leb, List, Some, None, Ok, Err, Option, sym, refl, ap, ◌∙◌, subst, le-leb}
+use Rattle.std.proofs.Common.{◌≡◌, ℕ, ◌<◌, ◌≤◌, cond, leb, List, Some, None, Ok, Err, Option, sym, refl, ap, ◌∙◌, subst, le-leb}
 use borrow.Author.Tests.{lt-leb}
 use Rattle.ruling.specs.declared.refusal.Refusal.{Refusal}
 use Rattle.ruling.specs.declared.refusal.Refusal.TheVariants.{TooManyStates}
@@ -34,8 +34,15 @@ module _ (h : History) (b : Meaning) (s : Stands h b) (red : Reduced b.kinds b) 
   need : Need ks s.set b.states
   need = need_of_table ks s.set b own
 
-  here : (c : Change) (e : Option Refusal) → early_fault b.kinds b.states c ≡ e → early_fault ks b.states c ≡ e
-  here c e p = ap (λ z. early_fault z b.states c) (sym s.exact.kinds) ∙ p
+  mine : Rules b.kinds s.set b
+  mine = subst (λ z. Rules z s.set b) (sym s.exact.kinds) s.exact
+
+  -- What the first fault of the earlier checks leads to comes out.
+  checked : (c : Change) (e : Option Refusal) (a : Answer) (after : Set) → early_fault b.kinds b.states c ≡ e → Checked ks s.set c e a after
+      → Reckons (called h (Ok (change c)) a) after
+  checked c e a after p x =
+      let here = ap (λ z. early_fault z b.states c) (sym s.exact.kinds) ∙ p in
+      (s.set, s.reckoned, (b.states, need, subst (λ z. Checked ks s.set c z a after) (sym here) x))
 
   -- Reading its input found a fault.
   pub faulty : (r : Refusal) → Stands (called h (Err r) (refused (told r))) b
@@ -43,65 +50,35 @@ module _ (h : History) (b : Meaning) (s : Stands h b) (red : Reduced b.kinds b) 
 
   -- An earlier check refused the change.
   pub barred : (c : Change) (r : Refusal) → early_fault b.kinds b.states c ≡ Some r → Stands (called h (Ok (change c)) (refused (told r))) b
-  barred c r e = standing (called h (Ok (change c)) (refused (told r))) s.set b (
-    s.set,
-    s.reckoned,
-    (
-      b.states,
-      need,
-      subst (λ z. Checked ks s.set c z (refused (told r)) s.set) (sym (here c (Some r) e)) (record { answer = refl; set = refl }),
-    ),
-  ) own
+  barred c r e =
+      standing (called h (Ok (change c)) (refused (told r))) s.set b (checked c (Some r) (refused (told r)) s.set e (record { answer = refl; set = refl })) own
 
-  -- The changed set needs more than 32 states.
+  -- The changed set needs n states.
+  changing : (c : Change) (n : ℕ) → early_fault b.kinds b.states c ≡ None → Need ks (changed s.set c) n
+      → Reckons (called h (Ok (change c)) (cond (leb n 32) (count n) (refused (told (TooManyStates n))))) (cond (leb n 32) (changed s.set c) s.set)
+  changing c n e x = checked c None _ _ e (record { need = n; needed = x; answer = refl; set = refl })
+
+  -- They are more than 32.
   pub large : (c : Change) (n : ℕ) → early_fault b.kinds b.states c ≡ None
       → ((S : Set) → Rules b.kinds S b → Need b.kinds (changed S c) n) → 32 < n
       → Stands (called h (Ok (change c)) (refused (told (TooManyStates n)))) b
   large c n e w l =
-      let t : leb n 32 ≡ false = lt-leb n 32 l in
-      let x : Need ks (changed s.set c) n = subst (λ z. Need z (changed s.set c) n) s.exact.kinds
-      (w s.set (subst (λ z. Rules z s.set b) (sym s.exact.kinds) s.exact)) in
-      standing (called h (Ok (change c)) (refused (told (TooManyStates n)))) s.set b (
-        s.set,
-        s.reckoned,
-        (
-          b.states,
-          need,
-          subst (λ z. Checked ks s.set c z (refused (told (TooManyStates n))) s.set) (sym (here c None e))
-              (record {
-                need = n;
-                needed = x;
-                answer = ap (λ z. cond z (count n) (refused (told (TooManyStates n)))) (sym t);
-                set = ap (λ z. cond z (changed s.set c) s.set) (sym t);
-              }),
-        ),
-      ) own
+      let x : Need ks (changed s.set c) n = subst (λ z. Need z (changed s.set c) n) s.exact.kinds (w s.set mine) in
+      standing (called h (Ok (change c)) (refused (told (TooManyStates n)))) s.set b
+      (subst (λ t. Reckons (called h (Ok (change c)) (cond t (count n) (refused (told (TooManyStates n))))) (cond t (changed s.set c) s.set))
+      (lt-leb n 32 l) (changing c n e x)) own
 
   -- The change was made.
   pub done : (c : Change) (d : Meaning) → early_fault b.kinds b.states c ≡ None → d.states ≤ 32
       → ((S : Set) → Rules b.kinds S b → TableFor b.kinds (changed S c) d)
       → Stands (called h (Ok (change c)) (count d.states)) d
   done c d e l w =
-      let t : leb d.states 32 ≡ true = le-leb d.states 32 l in
-      let x : TableFor ks (changed s.set c) d = subst (λ z. TableFor z (changed s.set c) d) s.exact.kinds
-      (w s.set (subst (λ z. Rules z s.set b) (sym s.exact.kinds) s.exact)) in
-      standing (called h (Ok (change c)) (count d.states)) (changed s.set c) d (
-        s.set,
-        s.reckoned,
-        (
-          b.states,
-          need,
-          subst (λ z. Checked ks s.set c z (count d.states) (changed s.set c)) (sym (here c None e))
-              (record {
-                need = d.states;
-                needed = need_of_table ks (changed s.set c) d x;
-                answer = ap (λ z. cond z (count d.states) (refused (told (TooManyStates d.states)))) (sym t);
-                set = ap (λ z. cond z (changed s.set c) s.set) (sym t);
-              }),
-        ),
-      ) x
+      let x : TableFor ks (changed s.set c) d = subst (λ z. TableFor z (changed s.set c) d) s.exact.kinds (w s.set mine) in
+      standing (called h (Ok (change c)) (count d.states)) (changed s.set c) d
+      (subst (λ t. Reckons (called h (Ok (change c)) (cond t (count d.states) (refused (told (TooManyStates d.states))))) (cond t (changed s.set c) s.set))
+      (le-leb d.states 32 l) (changing c d.states e (need_of_table ks (changed s.set c) d x))) x
 
   -- A question was answered from the table.
   pub replied : (q : Question) (a : Answer) → ((S : Set) → Rules b.kinds S b → a ≡ reply S b q) → Stands (called h (Ok (ask q)) a) b
   replied q a w = standing (called h (Ok (ask q)) a) s.set b
-      (s.set, s.reckoned, (b, own, record { answer = w s.set (subst (λ z. Rules z s.set b) (sym s.exact.kinds) s.exact); set = refl })) own
+      (s.set, s.reckoned, (b, own, record { answer = w s.set mine; set = refl })) own

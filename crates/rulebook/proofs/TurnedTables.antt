@@ -1,6 +1,10 @@
 -- A reduced table with yes and no exchanged is the reduced table of all other records.
-use Rattle.std.proofs.Common.{◌≡◌, ℕ, ◌<◌, ◌≤◌, Bool, true, false, cond, not, ◌&&◌, ltb, List, length, get_or, Some, None, Ok, unwrap_or, sym, refl, ap, ◌∙◌, ap₂, arith, lt-ltb}
+use Rattle.std.proofs.Common.{◌≡◌, ℕ, ◌<◌, ◌≤◌, Bool, true, false, cond, not, ltb, ltb-false, List, ◌++◌, take, drop, length, length-append, length-drop, get_or, Some, None, Ok, unwrap_or, sym, refl, ap, ◌∙◌, ap₂, ◌-◌, arith}
+use Rattle.std.proofs.Math.Bool.{not-not}
+use Rattle.std.proofs.Math.ListN.{get_or-append}
+use Rattle.std.proofs.lemmas.List.{get_or-append_right, get_or-drop, get_or-take, length-take-le}
 use mathlib.Core.Logic.{∥∥₁_elim, ∥∥₁_prop}
+use native.Mathlib.Nat.{ℕ_set}
 use Rattle.ruling.specs.Trees.{Tree, leaf, stem, fork}
 use Rattle.ruling.specs.Surroundings.{Surrounding, gap, under, left, right, SurroundingOver, around}
 use Rattle.ruling.specs.Meanings.{Meaning, one, two, run}
@@ -9,21 +13,14 @@ use Rattle.ruling.proofs.Smallest.{run_below}
 use Rattle.ruling.specs.Sets.{Set, Rules, others}
 use Rattle.ruling.specs.Questions.{marked}
 use Rattle.encoder.specs.declared.table_data.TableData.{TableData}
-use Rattle.encoder.specs.Tables.{kinds_held, table_meaning, Clean}
+use Rattle.encoder.specs.Tables.{kinds_held, table_meaning, CopyOf, Clean}
 use Rattle.rulebook.specs.declared.rulebook.Rulebook.{Rulebook}
-use Rattle.rulebook.specs.Tables.{turned_mark}
 use Rattle.rulebook.specs.Changes.{meaning_of}
 use Rattle.rulebook.specs.Calls.{turn, change, count}
 use Rattle.rulebook.specs.Outcomes.{TableFor}
 use Rattle.rulebook.specs.Histories.{History, called, Stands, Follows}
 use Rattle.rulebook.proofs.Stepping.{done}
 use Rattle.rulebook.proofs.Gained.{reduced_of}
-
-not_one : (x y : Bool) → not x ≡ not y → x ≡ y
-not_one true true e = refl
-not_one true false e = sym e
-not_one false true e = sym e
-not_one false false e = refl
 
 module _ (m : Meaning) (f : ℕ → Bool) (flip : (s : ℕ) → s < m.states → f s ≡ not (m.mark s)) (red : Reduced m.kinds m) where
   abbrev turned : Meaning
@@ -56,8 +53,9 @@ module _ (m : Meaning) (f : ℕ → Bool) (flip : (s : ℕ) → s < m.states →
     complete = red.complete;
     numbered = λ s l. let w = red.numbered s l in
         record { kind = w.kind; first = w.first; second = w.second; fits = w.fits; goes = w.goes; before = w.before };
-    distinct = λ p q hp hq e. red.distinct p q hp hq (λ s o. not_one (m.mark (around m s p)) (m.mark (around m s q))
-        (sym (mark_around s o p hp) ∙ (e s o ∙ mark_around s o q hq)));
+    distinct = λ p q hp hq e. red.distinct p q hp hq (λ s o.
+        let both : not (m.mark (around m s p)) ≡ not (m.mark (around m s q)) = sym (mark_around s o p hp) ∙ (e s o ∙ mark_around s o q hq) in
+        sym (not-not (m.mark (around m s p))) ∙ (ap not both ∙ not-not (m.mark (around m s q))));
   }
 
   turned_table : (S : Set) → Rules m.kinds S m → TableFor m.kinds (others S) turned
@@ -73,33 +71,54 @@ module _ (m : Meaning) (f : ℕ → Bool) (flip : (s : ℕ) → s < m.states →
   pub turn_done : m.states ≤ 32 → (h : History) → Stands h m → Stands (called h (Ok (change turn)) (count m.states)) turned
   turn_done l h s = done h m s red turn turned refl l turned_table
 
--- The same of a table in memory.
-module _ (b : Rulebook) (marks : List Bool) (other : (s : ℕ) → s < 32 → get_or marks s false ≡ turned_mark (get_or b.table.inner.marks s false) s b.table.inner.states)
-    (room : length marks ≡ 32) where
-  abbrev turned_data : TableData
-  turned_data = record { count = b.table.inner.count; ranks = b.table.inner.ranks; states = b.table.inner.states; marks = marks; cells = b.table.inner.cells }
+-- The same of a table in memory: the marks of its states are turned, and those behind stay.
+module _ (b : Rulebook) (front : List Bool) (long : length front ≡ length (take b.table.inner.states b.table.inner.marks))
+    (other : (s : ℕ) → s < length (take b.table.inner.states b.table.inner.marks)
+    → get_or front s false ≡ not (get_or (take b.table.inner.states b.table.inner.marks) s false)) where
+  abbrev states : ℕ
+  states = b.table.inner.states
 
-  flips : (s : ℕ) → s < b.table.inner.states → get_or marks s false ≡ not (get_or b.table.inner.marks s false)
-  flips s h = other s (omega (arith, b.table.limited)) ∙ ap (λ t. t && not (get_or b.table.inner.marks s false)) (lt-ltb s b.table.inner.states h)
+  abbrev before : List Bool
+  before = b.table.inner.marks
+
+  abbrev marks : List Bool
+  marks = front ++ drop states before
+
+  abbrev turned_data : TableData
+  turned_data = record { count = b.table.inner.count; ranks = b.table.inner.ranks; states = states; marks = marks; cells = b.table.inner.cells }
+
+  room : length before ≡ 32
+  room = ∥∥₁_elim b.clean (ℕ_set (length before) 32) (λ p. p.marks_room)
+
+  taken : length (take states before) ≡ states
+  taken = length-take-le states before (omega (arith, room, b.table.limited))
+
+  flips : (s : ℕ) → s < states → get_or marks s false ≡ not (get_or before s false)
+  flips s h = get_or-append front (drop states before) false s (omega (arith, taken))
+      ∙ (other s (omega (arith, taken)) ∙ ap not (get_or-take states before s false h))
+
+  behind : (s : ℕ) → states ≤ s → get_or marks s false ≡ get_or before s false
+  behind s h = get_or-append_right front (drop states before) states s false (long ∙ taken) h
+      ∙ (get_or-drop states before (s - states) false ∙ ap (λ k. get_or before k false) (omega arith))
 
   pub data_reduced : Reduced (kinds_held turned_data) (table_meaning turned_data)
   data_reduced = turned_reduced (meaning_of b) (λ s. get_or marks s false) flips (reduced_of b)
 
-  pub data_follows : Follows (meaning_of b) (Ok (change turn)) (count b.table.inner.states) (table_meaning turned_data)
+  pub data_follows : Follows (meaning_of b) (Ok (change turn)) (count states) (table_meaning turned_data)
   data_follows h s = turn_done (meaning_of b) (λ s. get_or marks s false) flips (reduced_of b) b.table.limited h s
 
-  clean_marks : (s : ℕ) → s < 32 → get_or marks s false ≡ unwrap_or (marked (table_meaning turned_data) s) false
-  clean_marks s h = go (ltb s b.table.inner.states) refl
+  clean_marks : CopyOf (table_meaning b.table.inner) b.table.inner → (s : ℕ) → s < 32 → get_or marks s false ≡ unwrap_or (marked (table_meaning turned_data) s) false
+  clean_marks p s h = go (ltb s states) refl
     where
-      go : (t : Bool) → ltb s b.table.inner.states ≡ t → get_or marks s false ≡ unwrap_or (cond t (Some (get_or marks s false)) None) false
+      go : (t : Bool) → ltb s states ≡ t → get_or marks s false ≡ unwrap_or (cond t (Some (get_or marks s false)) None) false
       go true e = refl
-      go false e = other s h ∙ ap (λ t. t && not (get_or b.table.inner.marks s false)) e
+      go false e = behind s (ltb-false s states e) ∙ (p.marks s h ∙ ap (λ t. unwrap_or (cond t (Some (get_or before s false)) None) false) e)
 
   pub data_clean : Clean b.table.inner → Clean turned_data
   data_clean p = record {
-    copy = record { count = p.copy.count; ranks = p.copy.ranks; states = refl; marks = clean_marks; cells = p.copy.cells };
+    copy = record { count = p.copy.count; ranks = p.copy.ranks; states = refl; marks = clean_marks p.copy; cells = p.copy.cells };
     ranks_room = p.ranks_room;
-    marks_room = room;
+    marks_room = omega (arith, length-append front (drop states before), length-drop states before, taken, room, b.table.limited);
     cells_room = p.cells_room;
   }
 

@@ -1,7 +1,7 @@
 -- What the rules reckon for one call: the answer, and the set afterwards.
 use Rattle.std.specs.Prelude.{◌≡◌, ℕ, ◌*◌, cond, List, length, Some, None, Ok, Err, Option, nat_le, nat_lt}
 use Rattle.ruling.specs.declared.refusal.Refusal.{Refusal}
-use Rattle.ruling.specs.declared.refusal.Refusal.TheVariants.{TooManyStates, BufferTooShort, PairTooLarge}
+use Rattle.ruling.specs.declared.refusal.Refusal.TheVariants.{TooManyStates, PairTooLarge}
 use Rattle.ruling.specs.Refusals.{told}
 use Rattle.ruling.specs.Trees.{node_count}
 use Rattle.ruling.specs.Meanings.{Meaning}
@@ -11,6 +11,7 @@ use Rattle.ruling.specs.KindLists.{kinds_fault}
 use Rattle.ruling.specs.Sets.{Set, Rules, Need}
 use Rattle.ruling.specs.ReducedTables.{Reduced}
 use Rattle.ruling.specs.Written.{file}
+use Rattle.encoder.specs.Encodings.{room_fault}
 use Rattle.rulebook.specs.Calls as calls
 use Rattle.rulebook.specs.Calls.{Change, Question, judge, write, states, rank, target, mark, change, ask, Made, Answer, count, verdict, wrote, found, refused, changed, kinds_in, partner}
 
@@ -18,10 +19,6 @@ use Rattle.rulebook.specs.Calls.{Change, Question, judge, write, states, rank, t
 abbrev pub list_fault : List ℕ → Option (List ℕ) → Option Refusal
 list_fault ks None = None
 list_fault ks (Some ls) = kinds_fault ls ks
-
--- Fault 13: less room is lent than is needed.
-abbrev pub room_fault : ℕ → ℕ → Option Refusal
-room_fault need room = cond (nat_lt room need) (Some (BufferTooShort need)) None
 
 -- Fault 14: n states paired with p are more than 1,089.
 abbrev pub pair_fault : ℕ → Option ℕ → Option Refusal

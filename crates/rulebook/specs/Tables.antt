@@ -1,5 +1,5 @@
 -- What the table of a rulebook keeps to.
-use Rattle.std.specs.Prelude.{ℕ, Bool, false, not, ◌&&◌, List, nat_lt}
+use Rattle.std.specs.Prelude.{ℕ, false, List}
 use Rattle.ruling.specs.Meanings.{Meaning}
 use Rattle.ruling.specs.ReducedTables.{Reduced}
 use Rattle.encoder.specs.declared.table_data.TableData.{TableData}
@@ -15,7 +15,3 @@ IsClean t = ∥ Clean t ∥₁
 -- One state, marked no, and every target leads to it.
 abbrev pub empty_meaning : List ℕ → Meaning
 empty_meaning ks = record { kinds = ks; states = 1; target = λ k a b. 0; mark = λ s. false }
-
--- The other mark of a state; no where there is no such state.
-abbrev pub turned_mark : Bool → ℕ → ℕ → Bool
-turned_mark b s n = nat_lt s n && not b

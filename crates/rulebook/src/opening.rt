@@ -9,23 +9,20 @@ ghost use Rattle.rulebook.specs.Changes.{meaning_of};
 
 use super::rulebook::Rulebook;
 use encoder::{Table, TableData};
+use std::array::from_fn;
 
-fn rank_or_zero(ranks: &[u8], kind: usize) -> u8
-    ensures { result ≡ unwrap_or (rank_in ranks.now kind) 0 }
+// The rank of a kind; none where there is no such kind.
+fn rank_at(ranks: &[u8], kind: usize) -> Option<u8>
+    ensures { result ≡ rank_in ranks.now kind }
 {
-    if kind < ranks.len() { ranks[kind] } else { 0 }
+    ranks.get(kind).copied()
 }
 
 // The ranks, with zeros behind.
 fn padded(ranks: &[u8]) -> [u8; 16]
     ensures { (k : ℕ) → k < 16 → slice_index result k ≡ unwrap_or (rank_in ranks.now k) 0 }
 {
-    let mut held = [0; 16];
-    for kind in 0..16 {
-        let rank = rank_or_zero(ranks, kind);
-        held[kind] = rank;
-    }
-    held
+    from_fn(|kind| rank_at(ranks, kind).unwrap_or(0))
 }
 
 // One state, marked no, and every target leads to it.

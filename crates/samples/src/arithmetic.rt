@@ -3,7 +3,7 @@ ghost use Rattle.samples.specs.Arithmetics.{lead_of, mark_of};
 use super::rules::Rules;
 
 // Rules by arithmetic on the kind and the states.
-#[derive(Clone, Copy)]
+#[derive(Clone, Copy, Debug, PartialEq, Eq)]
 pub enum Arithmetic {
     // 1 and the children's states, summed modulo the number of states; 0 is marked
     Counting,
@@ -25,8 +25,7 @@ impl Rules for Arithmetic {
     fn lead(&self, states: u16, kind: u8, a: u16, b: u16) -> u32 {
         let n = states as u32;
         match *self {
-            Arithmetic::Counting => (1 + a as u32 + b as u32) % n,
-            Arithmetic::Classes33 => (1 + a as u32 + b as u32) % n,
+            Arithmetic::Counting | Arithmetic::Classes33 => (1 + a as u32 + b as u32) % n,
             Arithmetic::Alike => (kind as u32 + a as u32 + b as u32) % n,
             Arithmetic::Cycle => (kind as u32 + a as u32) % n,
             Arithmetic::Slow if kind == 0 => n - 1,
@@ -36,11 +35,10 @@ impl Rules for Arithmetic {
 
     fn mark(&self, states: u16, state: u16) -> bool {
         match *self {
-            Arithmetic::Counting => state == 0,
+            Arithmetic::Counting | Arithmetic::Slow => state == 0,
             Arithmetic::Classes33 => state % 33 == 0,
             Arithmetic::Alike => true,
             Arithmetic::Cycle => state as u32 + 1 == states as u32,
-            Arithmetic::Slow => state == 0,
         }
     }
 }

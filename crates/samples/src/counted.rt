@@ -20,7 +20,7 @@ impl<'a, R: Ruling> Ruling for Counted<'a, R> {
     }
 
     fn target(&self, kind: u8, a: u16, b: u16) -> Option<u16> {
-        self.asked.set(self.asked.get().wrapping_add(1));
+        self.asked.update(|asked| asked.wrapping_add(1));
         self.ruling.target(kind, a, b)
     }
 

@@ -3,6 +3,7 @@
 
 mod arithmetic;
 mod counted;
+mod marking;
 mod opening;
 mod product;
 mod rules;
@@ -11,6 +12,7 @@ mod sampling;
 
 pub use arithmetic::Arithmetic;
 pub use counted::Counted;
+pub use marking::Marking;
 pub use opening::Opening;
 pub use product::Product;
 pub use rules::Rules;

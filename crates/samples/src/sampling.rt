@@ -22,11 +22,10 @@ pub fn open(ranks: &[u8]) -> Result<Opening, Refusal>
 fn state_within(states: u16, target: u32) -> u16
     ensures { result ≡ within states target }
 {
-    if target < states as u32 {
-        target as u16
-    } else {
-        0
-    }
+    u16::try_from(target)
+        .ok()
+        .filter(|state| *state < states)
+        .unwrap_or(0)
 }
 
 impl<T: Rules> Sample<T> {
@@ -55,18 +54,13 @@ impl<T: Rules> Ruling for Sample<T> {
 
     fn target(&self, kind: u8, a: u16, b: u16) -> Option<u16> {
         let rank = self.opening.kinds.rank(kind)?;
-        if !fits_rank(rank, self.states, a, b) {
-            return None;
-        }
-        let target = self.rules.lead(self.states, kind, a, b);
-        Some(state_within(self.states, target))
+        fits_rank(rank, self.states, a, b).then(|| state_within(
+            self.states,
+            self.rules.lead(self.states, kind, a, b),
+        ))
     }
 
     fn mark(&self, state: u16) -> Option<bool> {
-        if state < self.states {
-            Some(self.rules.mark(self.states, state))
-        } else {
-            None
-        }
+        (state < self.states).then(|| self.rules.mark(self.states, state))
     }
 }

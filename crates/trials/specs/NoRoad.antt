@@ -1,5 +1,5 @@
 -- A ruling of a make of its own: no road anywhere.
-use Rattle.std.specs.Prelude.{ℕ, zero, suc, ◌<◌, max, Bool, true, false, cond, List, [], ◌∷◌, ◌==◌}
+use Rattle.std.specs.Prelude.{ℕ, ◌<◌, max, Bool, true, false, cond, List, [], ◌∷◌, ◌==◌}
 use Rattle.std.proofs.Common.{arith, lit<, lit≤}
 use Rattle.ruling.specs.Meanings.{Meaning, Fits, none, one, two}
 use Rattle.ruling.specs.KindLists.{Ranks}
@@ -14,11 +14,7 @@ abbrev pub no_road_plain : Meaning
 no_road_plain = record { kinds = trail_kinds; states = 2; target = λ k a b. cond (k == 1) 1 (max a b); mark = λ s. (s == 0) }
 
 pub trail_ranks : Ranks trail_kinds
-trail_ranks zero l = omega arith
-trail_ranks (suc zero) l = omega arith
-trail_ranks (suc (suc zero)) l = omega arith
-trail_ranks (suc (suc (suc zero))) l = omega arith
-trail_ranks (suc (suc (suc (suc k)))) l = omega arith
+trail_ranks k l = grind arith
 
 below : (x : Bool) (a b : ℕ) → a < 2 → b < 2 → cond x 1 (max a b) < 2
 below true a b p q = omega arith

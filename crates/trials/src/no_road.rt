@@ -14,8 +14,7 @@ impl Ruling for NoRoad {
 
     fn rank(&self, kind: u8) -> Option<u8> {
         match kind {
-            0 => Some(0),
-            1 => Some(0),
+            0 | 1 => Some(0),
             2 => Some(1),
             3 => Some(2),
             _ => None,
@@ -23,11 +22,11 @@ impl Ruling for NoRoad {
     }
 
     fn target(&self, kind: u8, a: u16, b: u16) -> Option<u16> {
-        match kind {
-            0 if a == 0 && b == 0 => Some(0),
-            1 if a == 0 && b == 0 => Some(1),
-            2 if a < 2 && b == 0 => Some(a),
-            3 if a < 2 && b < 2 => Some(a.max(b)),
+        match (kind, a, b) {
+            (0, 0, 0) => Some(0),
+            (1, 0, 0) => Some(1),
+            (2, 0..=1, 0) => Some(a),
+            (3, 0..=1, 0..=1) => Some(a.max(b)),
             _ => None,
         }
     }

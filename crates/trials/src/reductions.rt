@@ -1,7 +1,7 @@
 ghost use Rattle.std.specs.Prelude.{◌<◌, ◌≤◌};
 
 use super::no_road::NoRoad;
-use super::tests::{NO_ROAD_FILE, refused};
+use super::tests::NO_ROAD_FILE;
 use encoder::{Table, encode};
 use reduction::reduce;
 use ruling::Refusal;
@@ -10,25 +10,18 @@ use std::process::Abort;
 use std::test::Fail;
 use table::{FlatTable, check_table};
 
-// The reduced table is written as this file.
-fn writes(rt: &impl Abort, reduced: Result<Table, Refusal>, file: &[u8]) -> Result<(), Fail> {
-    let Ok(table) = reduced else {
-        return Err(Fail::new("a table of few states"));
-    };
+// The table is written as this file.
+fn writes(rt: &impl Abort, table: &Table, file: &[u8]) -> Result<(), Fail> {
     let mut out = [0; 80];
-    match encode(&table, &mut out) {
-        Ok(length) if length <= 80 => {
-            assert_eq!(rt; &out[0..length], file);
-            Ok(())
-        },
-        _ => Err(Fail::new("there is room")),
-    }
+    let length = encode(table, &mut out)?;
+    assert_eq!(rt; out.get(0..length), Some(file));
+    Ok(())
 }
 
 // A make that no crate below knows.
 #[test]
 fn no_road(rt: HostRuntime) -> Result<(), Fail> {
-    writes(&rt, reduce(&NoRoad), NO_ROAD_FILE)
+    writes(&rt, &reduce(&NoRoad)?, NO_ROAD_FILE)
 }
 
 // The table of the set of a table file.
@@ -39,8 +32,8 @@ fn reduce_file(file: &[u8]) -> Result<Table, Refusal> {
 
 // The file is reduced to the other, and the other stays as it is.
 fn reduces(rt: &impl Abort, file: &[u8], reduced: &[u8]) -> Result<(), Fail> {
-    writes(rt, reduce_file(file), reduced)?;
-    writes(rt, reduce_file(reduced), reduced)
+    writes(rt, &reduce_file(file)?, reduced)?;
+    writes(rt, &reduce_file(reduced)?, reduced)
 }
 
 // Over path, road, sign and join.
@@ -200,22 +193,26 @@ const UNDER_30_SIGNS: &[u8; 79] = b"\x01\x20\x02\x00\x00\x01\
     \x2E\x00\x01\x00\x2F\x00\x20\x00\
     \x00\x01\x02\x03\x04\x05\x06\x07\x08\x09\x0A\x0B\x0C\x0D\x0E\x0F\x10\x11\x12\x13\x14\x15\x16\x17\x18\x19\x1A\x1B\x1C\x1D\x1E\x1F\x1F";
 
-// The refusal of a cycle of so many states, the last marked yes: each state is a class of its own.
-fn cycle_refused(states: u16) -> Option<(u8, usize)>
+// The table of a cycle of so many states, the last marked yes: each state is a class of its own.
+fn reduce_cycle(states: u16) -> Result<Table, Refusal>
     requires { (0 < states) × (states ≤ 1089) }
 {
-    let Ok(opening) = open(&[0, 1]) else {
-        return None;
-    };
-    refused(reduce(&Sample::make(opening, states, Arithmetic::Cycle)))
+    let opening = open(&[0, 1])?;
+    reduce(&Sample::make(opening, states, Arithmetic::Cycle))
 }
 
 // A need of 32 is written; one above it is told exactly.
 #[test]
 fn needs(rt: HostRuntime) -> Result<(), Fail> {
     reduces(&rt, UNDER_30_SIGNS, UNDER_30_SIGNS)?;
-    assert_eq!(rt; refused(reduce_file(UNDER_31_SIGNS)), Some((12, 33)));
-    assert_eq!(rt; cycle_refused(256), Some((12, 256)));
-    assert_eq!(rt; cycle_refused(1089), Some((12, 1089)));
+    assert_eq!(rt;
+        reduce_file(UNDER_31_SIGNS).err(),
+        Some(Refusal::TooManyStates(33))
+    );
+    assert_eq!(rt; reduce_cycle(256).err(), Some(Refusal::TooManyStates(256)));
+    assert_eq!(rt;
+        reduce_cycle(1089).err(),
+        Some(Refusal::TooManyStates(1089))
+    );
     Ok(())
 }

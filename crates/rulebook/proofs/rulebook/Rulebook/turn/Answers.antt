@@ -1,4 +1,3 @@
-use Rattle.std.proofs.Common.{arith}
 use Rattle.rulebook.proofs.TurnedTables.{data_reduced, data_follows, data_cleaned}
 use Rattle.rulebook.proofs.rulebook.Rulebook.turn.Goals as goal
 
@@ -8,13 +7,10 @@ invariant_of-self c =
       tt,
       (t.some, (t.few, (t.counted, (t.ranked, (t.leaf, (t.filled, (t.limited, (t.complete, tt)))))))),
       (
-        ∣ data_reduced c.args.self.now c.turned_marks-marks.result c.turned_marks-marks.ensures (omega arith) ∣₁,
-        (
-          data_cleaned c.args.self.now c.turned_marks-marks.result c.turned_marks-marks.ensures (omega arith),
-          tt,
-        ),
+        ∣ data_reduced c.args.self.now c.turn_marks.new.marks c.turn_marks.auto.marks c.turn_marks.ensures ∣₁,
+        (data_cleaned c.args.self.now c.turn_marks.new.marks c.turn_marks.auto.marks c.turn_marks.ensures, tt),
       ),
     )
 
 pub returns : goal.returns
-returns c = data_follows c.args.self.now c.turned_marks-marks.result c.turned_marks-marks.ensures (omega arith)
+returns c = data_follows c.args.self.now c.turn_marks.new.marks c.turn_marks.auto.marks c.turn_marks.ensures
