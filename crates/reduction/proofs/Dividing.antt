@@ -1,5 +1,5 @@
 -- Classes divided by a context: what no surrounding tells apart stays together.
-use Rattle.std.proofs.Common.{◌≡◌, ℕ, ◌+◌, ◌-◌, ◌*◌, ◌<◌, ◌≤◌, Bool, true, false, cond, eqb, ◌⊎◌, List, length, get_or, set, replicate, sym, refl, ap, ◌∙◌, subst, subst₂, inl, inr, arith, get_or-set_other, get_or-set_same}
+use Rattle.std.proofs.Common.{◌≡◌, ℕ, ◌+◌, ◌-◌, ◌*◌, ◌<◌, ◌≤◌, Bool, true, false, cond, eqb, ◌⊎◌, List, length, get_or, set, replicate, sym, refl, ap, ◌∙◌, subst, inl, inr, arith, get_or-set_other, get_or-set_same}
 use native.Mathlib.Decide.{ℕ_discrete, dec_lt}
 use lib.ListN.{length-replicate}
 use Rattle.std.proofs.lemmas.Bool.{eq-eqb, ne_eqb}
@@ -156,12 +156,14 @@ level_equal m f class leader live n key lives level keys p q hp hq e = go (level
     go (inl g) = ap f g
     go (inr (x, y, g)) = sym (key_of f live n key keys p x) ∙ (g ∙ key_of f live n key keys q y)
 
-pub listing_as : (m : Meaning) (o o' : List ℕ) (n n' : ℕ) → o' ≡ o → n' ≡ n → Listing m o n → Listing m o' n'
-listing_as m o o' n n' e f = subst₂ (Listing m) (sym e) (sym f)
-
 -- The listed states are all live at first.
-pub all_live : (m : Meaning) (class order : List ℕ) (n : ℕ) → m.states ≤ 1089 → Listing m order n → Lives m class order n
-all_live m class order n few list = record { few = omega (arith, list.few); reached = list.reached; others = λ p h. inl (list.all p h) }
+pub all_live : (m : Meaning) (class list live : List ℕ) (n : ℕ) → m.states ≤ 1089 → Listing m list → n ≡ length list
+    → ((x : ℕ) → x < n → get_or live x 0 ≡ get_or list x 0) → Lives m class live n
+all_live m class list live n few listed e same = record {
+  few = omega (arith, listed.few);
+  reached = λ x h. subst (Reached m.kinds m) (sym (same x h)) (listed.reached x (omega arith));
+  others = λ p h. let v = listed.all p h in inl (v.0, omega (arith, v.1), same v.0 (omega (arith, v.1)) ∙ v.2);
+}
 
 whole_led : (m : Meaning) (class leader : List ℕ) (c s : ℕ) → Reached m.kinds m s → Whole class leader c s → (j : ℕ) → j < c → Reached m.kinds m (get_or leader j 0)
 whole_led m class leader c s hit whole j h = let z : j ≡ 0 = omega (arith, whole.one) in
@@ -171,21 +173,21 @@ whole_coarse : (m : Meaning) (class leader : List ℕ) (c s : ℕ) → Whole cla
 whole_coarse m class leader c s whole p q hp hq e = omega (arith, whole.one, whole.parts.small p, whole.parts.small q)
 
 -- The whole, divided by the marks.
-module _ (w : Ruled) (class leader order : List ℕ) (n c : ℕ) (list : Listing w.plain order n) (s : ℕ) (hit : Reached w.plain.kinds w.plain s)
+module _ (w : Ruled) (class leader order : List ℕ) (n c : ℕ) (lives : Lives w.plain class order n) (s : ℕ) (hit : Reached w.plain.kinds w.plain s)
     (whole : Whole class leader c s) where
   pub whole_room : Room order n leader c
-  whole_room = room_of w class order n leader c (all_live w.plain class order n w.few list) (whole_led w.plain class leader c s hit whole)
+  whole_room = room_of w class order n leader c lives (whole_led w.plain class leader c s hit whole)
 
   module _ (key class' leader' : List ℕ) (c' : ℕ) (keys : Keys (mark_key w.plain) order n key) (split : Split order n key class leader c class' leader' c') where
     same_keys : (p q : ℕ) → Among order n p → Among order n q → Same w.plain.kinds w.plain p q → get_or key p 0 ≡ get_or key q 0
-    same_keys = keys_same w.plain (mark_key w.plain) class order n key (all_live w.plain class order n w.few list) (mark_key_same w.plain) keys
+    same_keys = keys_same w.plain (mark_key w.plain) class order n key lives (mark_key_same w.plain) keys
 
     pub marks_lives : Lives w.plain class' order n
-    marks_lives = split_lives w.plain class leader c order n key class' leader' c' (all_live w.plain class order n w.few list)
+    marks_lives = split_lives w.plain class leader c order n key class' leader' c' lives
         (whole_led w.plain class leader c s hit whole) (whole_coarse w.plain class leader c s whole) same_keys split
 
     pub marks_classed : Level order n key class' leader' → Classed w.plain class' leader' c'
-    marks_classed level = split_classed w.plain class leader c order n key class' leader' c' (all_live w.plain class order n w.few list)
+    marks_classed level = split_classed w.plain class leader c order n key class' leader' c' lives
         (whole_led w.plain class leader c s hit whole) (whole_coarse w.plain class leader c s whole) same_keys split
         (λ p q hp hq e. sym (mark_told (w.plain.mark p)) ∙ (ap (λ z. eqb z 1)
         (level_equal w.plain (mark_key w.plain) class' leader' order n key marks_lives level keys p q hp hq e) ∙ mark_told (w.plain.mark q)))
@@ -228,9 +230,9 @@ module _ (m : Meaning) (class leader : List ℕ) (c : ℕ) (k : Classed m class 
   }
 
 -- Where every brother rests, every context does: a brother on the left acts as the leader of its class does.
-pub rest_all : (w : Ruled) (order : List ℕ) (n : ℕ) (class leader : List ℕ) (c : ℕ) → Listing w.plain order n → Classed w.plain class leader c
-    → EvenUnder w.plain class 16 → ((j : ℕ) → j < n → EvenBeside w.plain class leader 16 (get_or order j 0)) → AllEven w.plain class
-rest_all w order n class leader c list sound unders besides = all
+pub rest_all : (w : Ruled) (order : List ℕ) (class leader : List ℕ) (c : ℕ) → Listing w.plain order → Classed w.plain class leader c
+    → EvenUnder w.plain class 16 → ((j : ℕ) → j < length order → EvenBeside w.plain class leader 16 (get_or order j 0)) → AllEven w.plain class
+rest_all w order class leader c list sound unders besides = all
   where
     beside : (r : ℕ) → Reached w.plain.kinds w.plain r → EvenBeside w.plain class leader 16 r
     beside r h = let v = list.all r h in subst (EvenBeside w.plain class leader 16) v.2 (besides v.0 v.1)

@@ -3,10 +3,9 @@ ghost use Rattle.ruling.specs.Classes.{Reached};
 ghost use Rattle.ruling.specs.Written.{mark_byte};
 ghost use Rattle.reduction.specs.Dividing.{Keys, mark_key, Whole};
 ghost use Rattle.reduction.specs.Divisions.{Sorted};
-ghost use Rattle.reduction.specs.Searches.{Listed};
+ghost use Rattle.reduction.specs.Searching.{Listing};
 
 use super::division::Division;
-use super::found::Search;
 use super::live::Live;
 use super::partition::Partition;
 use super::questions::mark_of;
@@ -49,24 +48,27 @@ impl Partition {
 
 impl Live {
     // All listed states.
-    fn all(list: &Search) -> Live
-        ensures { (result.states ≡ list.now.order) × (result.count ≡ list.now.count) }
+    fn all(list: &[u16]) -> Live
+        requires { length list.now ≤ 1089 }
+        ensures { (result.count ≡ length list.now) × ((x : ℕ) → x < result.count → slice_index result.states x ≡ slice_index list.now x) }
     {
+        let mut states = [0; 1089];
+        states[..list.len()].copy_from_slice(list);
         Live {
-            states: list.order,
-            count: list.count,
+            states,
+            count: list.len() as u16,
         }
     }
 }
 
 impl Division {
     // The listed states, divided by their marks.
-    pub(super) fn by_marks<R: Ruling>(ruling: &R, list: &Search) -> Division
-        requires { Listed (R.Ruling.meaning ruling.now).plain list.now }
+    pub(super) fn by_marks<R: Ruling>(ruling: &R, list: &[u16]) -> Division
+        requires { Listing (R.Ruling.meaning ruling.now).plain list.now }
         ensures { Sorted (R.Ruling.meaning ruling.now).plain result }
     {
         let mut live = Live::all(list);
-        let mut partition = Partition::whole(list.order[0]);
+        let mut partition = Partition::whole(list[0]);
         let mut key = [0; 1089];
         read_marks(ruling, &live, &mut key);
         partition.split(&live, &key);

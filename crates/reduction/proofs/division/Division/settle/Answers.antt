@@ -1,4 +1,4 @@
-use Rattle.std.proofs.Common.{arith}
+use Rattle.std.proofs.Common.{refl, arith}
 use Rattle.reduction.proofs.Dividing.{few_classes, none_live, rest_all, resting_all, rests_at, turn_less, turn_next, turn_quiet, turn_rests}
 use Rattle.reduction.proofs.division.Division.settle.Goals as goal
 
@@ -12,7 +12,7 @@ loop-self-preserved g c = (
   c.meet_brother-divided.ensures.sorted,
   c.meet_brother-divided.ensures.even,
   turn_rests _ _ _ _ _ _ _ _ _ _ _ _ c.loop-self.invariant.3 c.quiet_after-quiet.ensures c.next_in_circle-next.ensures
-      (λ e. let r = rests_at _ _ _ _ _ c.at.ensures (c.meet_brother-divided.ensures.rest e) in (r.same.0, r.same.1, r.rests)) c.loop-self.invariant.2,
+      (λ e. let r = rests_at _ _ _ _ _ refl (c.meet_brother-divided.ensures.rest e) in (r.same.0, r.same.1, r.rests)) c.loop-self.invariant.2,
   turn_next _ _ _ c.loop-self.invariant.3 c.next_in_circle-next.ensures,
   turn_quiet _ _ _ _ c.if-quiet-list.true c.quiet_after-quiet.ensures,
 )
@@ -20,7 +20,7 @@ loop-self-preserved g c = (
 pub returns-else-quiet-list : goal.returns-else-quiet-list
 returns-else-quiet-list g c = record {
   sorted = c.loop-self.invariant.0;
-  even = rest_all (g.R.Ruling.meaning c.args.ruling.now) _ _ _ _ _ c.requires.listed c.loop-self.invariant.0.classed c.loop-self.invariant.1
+  even = rest_all (g.R.Ruling.meaning c.args.ruling.now) _ _ _ _ c.requires.listed c.loop-self.invariant.0.classed c.loop-self.invariant.1
       (resting_all _ _ _ _ _ _ _ c.loop-self.invariant.3 (omega arith) c.loop-self.invariant.2);
 }
 
