@@ -1,9 +1,8 @@
 -- Classes divided by a context: what no surrounding tells apart stays together.
-use Rattle.std.proofs.Common.{◌≡◌, ℕ, ◌+◌, ◌-◌, ◌*◌, ◌%◌, ◌<◌, ◌≤◌, Bool, true, false, cond, eqb, ◌⊎◌, List, [], ◌∷◌, ◌++◌, All, Contains, length, get_or, set, take, sym, refl, ap, ◌∙◌, subst, inl, inr, arith, get_or-set_other, get_or-set_same, length-take-le}
+use Rattle.std.proofs.Common.{◌≡◌, ℕ, ◌+◌, ◌-◌, ◌*◌, ◌%◌, ◌<◌, ◌≤◌, Bool, true, false, cond, eqb, ◌⊎◌, List, [], ◌∷◌, ◌++◌, All, Contains, length, get_or, set, sym, refl, ap, ◌∙◌, subst, inl, inr, arith, get_or-set_other, get_or-set_same}
 use native.Mathlib.Decide.{ℕ_discrete, dec_lt}
 use Rattle.std.proofs.lemmas.Bool.{eq-eqb}
 use Rattle.std.proofs.lemmas.List.Elements.{All-cons, All-contains, All-from_get_or, All-nil, All-push, Contains-get_or}
-use Rattle.std.proofs.lemmas.List.{get_or-take}
 use Rattle.std.proofs.Math.Nat.{mod_self, mod-eq_of_lt}
 use Rattle.ruling.specs.Trees.{Kind}
 use Rattle.ruling.specs.Meanings.{Meaning}
@@ -149,15 +148,11 @@ level_equal m f class leader live key lives level keys p q hp hq e = go (level_k
     go (inr (x, y, g)) = sym (All-contains (λ z. get_or key z 0 ≡ f z) live p keys x) ∙ (g ∙ All-contains (λ z. get_or key z 0 ≡ f z) live q keys y)
 
 -- The listed states are all live at first.
-pub all_live : (m : Meaning) (class order : List ℕ) (n : ℕ) → n ≤ length order → Listing m order n → Lives m class (take n order)
-all_live m class order n room list = record {
-  reached = All-from_get_or (Reached m.kinds m) (take n order) 0 (λ i h. subst (Reached m.kinds m) (sym (get_or-take n order i 0 (omega (arith, long)))) (list.reached i (omega (arith, long))));
-  others = λ p h. inl (let v = list.all p h in subst (Contains (take n order)) (get_or-take n order v.0 0 v.1 ∙ v.2)
-      (Contains-get_or (take n order) v.0 0 (omega (arith, long, v.1))));
+pub all_live : (m : Meaning) (class list : List ℕ) → Listing m list → Lives m class list
+all_live m class list listed = record {
+  reached = All-from_get_or (Reached m.kinds m) list 0 listed.reached;
+  others = λ p h. inl (let v = listed.all p h in subst (Contains list) v.2 (Contains-get_or list v.0 0 v.1));
 }
-  where
-    long : length (take n order) ≡ n
-    long = length-take-le n order room
 
 whole_led : (m : Meaning) (class leader : List ℕ) (s : ℕ) → Reached m.kinds m s → Whole class leader s → All (Reached m.kinds m) leader
 whole_led m class leader s hit whole = subst (All (Reached m.kinds m)) (sym whole.0) (All-cons (Reached m.kinds m) s [] hit (All-nil (Reached m.kinds m)))
@@ -218,9 +213,9 @@ module _ (m : Meaning) (class leader : List ℕ) (k : Classed m class leader) (e
   }
 
 -- Where every brother rests, every context does: a brother on the left acts as the leader of its class does.
-pub rest_all : (w : Ruled) (order : List ℕ) (n : ℕ) (class leader : List ℕ) → Listing w.plain order n → Classed w.plain class leader
-    → EvenUnder w.plain class 16 → ((j : ℕ) → j < n → EvenBeside w.plain class leader 16 (get_or order j 0)) → AllEven w.plain class
-rest_all w order n class leader list sound unders besides = all
+pub rest_all : (w : Ruled) (order class leader : List ℕ) → Listing w.plain order → Classed w.plain class leader
+    → EvenUnder w.plain class 16 → ((j : ℕ) → j < length order → EvenBeside w.plain class leader 16 (get_or order j 0)) → AllEven w.plain class
+rest_all w order class leader list sound unders besides = all
   where
     beside : (r : ℕ) → Reached w.plain.kinds w.plain r → EvenBeside w.plain class leader 16 r
     beside r h = let v = list.all r h in subst (EvenBeside w.plain class leader 16) v.2 (besides v.0 v.1)

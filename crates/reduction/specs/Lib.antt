@@ -1,6 +1,5 @@
 -- In reading order.
 pub mod Searching
-pub mod Searches
 pub mod Dividing
 pub mod Divisions
 pub mod Numbering

@@ -1,10 +1,9 @@
 ghost use Rattle.std.specs.Prelude.{◌≡◌, ◌<◌};
 ghost use Rattle.reduction.specs.Dividing.{mark_key, Whole};
 ghost use Rattle.reduction.specs.Divisions.{Sorted};
-ghost use Rattle.reduction.specs.Searches.{Listed};
+ghost use Rattle.reduction.specs.Searching.{Listing};
 
 use super::division::Division;
-use super::found::Search;
 use super::keys::keys_of;
 use super::partition::Partition;
 use super::questions::mark_of;
@@ -29,21 +28,20 @@ impl Partition {
 
 impl Division {
     // The listed states, divided by their marks.
-    pub(super) fn by_marks<R: Ruling>(ruling: &R, list: &Search) -> Division
-        requires { Listed (R.Ruling.meaning ruling.now).plain list.now }
+    pub(super) fn by_marks<R: Ruling>(ruling: &R, list: &[u16]) -> Division
+        requires { Listing (R.Ruling.meaning ruling.now).plain list.now }
         ensures { Sorted (R.Ruling.meaning ruling.now).plain result }
     {
-        let listed = &list.order[..list.count as usize];
         let keys = keys_of(
-            listed,
+            list,
             |state| -> u16
                 requires { state < (R.Ruling.meaning ruling.now).plain.states }
                 ensures { result ≡ mark_key (R.Ruling.meaning ruling.entry.now).plain state }
             { u16::from(mark_of(ruling, state)) },
         );
-        let mut partition = Partition::whole(listed[0]);
-        partition.split(listed, &keys);
-        let live = still_live(listed, &partition);
+        let mut partition = Partition::whole(list[0]);
+        partition.split(list, &keys);
+        let live = still_live(list, &partition);
         Division { partition, live }
     }
 }

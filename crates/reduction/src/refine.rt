@@ -4,10 +4,9 @@ ghost use Rattle.ruling.specs.Classes.{Reached, Classes};
 ghost use Rattle.reduction.specs.declared.place.Place.TheVariants.{Under};
 ghost use Rattle.reduction.specs.Dividing.{Even, EvenUnder, EvenBoth, EvenBeside, AllEven};
 ghost use Rattle.reduction.specs.Divisions.{Sorted, Finer, RestsAt};
-ghost use Rattle.reduction.specs.Searches.{Listed};
+ghost use Rattle.reduction.specs.Searching.{Listing};
 
 use super::division::Division;
-use super::found::Search;
 use super::partition::Partition;
 use super::place::Place;
 use ruling::Ruling;
@@ -119,9 +118,9 @@ impl Division {
 
     // Meets the brothers one after the other, in a circle, until a whole round of them has divided nothing, or no state is live.
     // Where all marks are equal there is one class at once.
-    fn settle<R: Ruling>(&mut self, ruling: &R, list: &Search)
+    fn settle<R: Ruling>(&mut self, ruling: &R, list: &[u16])
         requires sorted { Sorted (R.Ruling.meaning ruling.now).plain self.old }
-        requires listed { Listed (R.Ruling.meaning ruling.now).plain list.now }
+        requires listed { Listing (R.Ruling.meaning ruling.now).plain list.now }
         ensures sorted { Sorted (R.Ruling.meaning ruling.now).plain self.new }
         ensures even { AllEven (R.Ruling.meaning ruling.now).plain self.new.partition.class }
     {
@@ -131,17 +130,17 @@ impl Division {
         self.under_all(ruling);
         let mut quiet = 0;
         let mut next = 0;
-        while !self.live.is_empty() && quiet < list.count {
-            let divided = self.meet_brother(ruling, list.at(next));
+        while !self.live.is_empty() && quiet < list.len() {
+            let divided = self.meet_brother(ruling, list[next]);
             quiet = if divided { 0 } else { quiet + 1 };
-            next = (next + 1) % list.count;
+            next = (next + 1) % list.len();
         }
     }
 }
 
 // Divides the listed states into classes: two have one class exactly if no surrounding tells them apart.
-pub(super) fn classes<R: Ruling>(ruling: &R, list: &Search) -> Partition
-    requires { Listed (R.Ruling.meaning ruling.now).plain list.now }
+pub(super) fn classes<R: Ruling>(ruling: &R, list: &[u16]) -> Partition
+    requires { Listing (R.Ruling.meaning ruling.now).plain list.now }
     ensures { Classes (R.Ruling.meaning ruling.now).plain.kinds (R.Ruling.meaning ruling.now).plain (length result.leader.items) (λ s. slice_index result.class s) }
 {
     let mut division = Division::by_marks(ruling, list);

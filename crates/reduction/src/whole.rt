@@ -20,7 +20,7 @@ pub fn reduce_watched<R: Ruling, W: Watch>(ruling: &R, watch: &mut W) -> Result<
 {
     let list = reached(ruling);
     watch.ended(Phase::Reached);
-    let partition = classes(ruling, &list);
+    let partition = classes(ruling, list.as_slice());
     watch.ended(Phase::Classes);
     let count = partition.count();
     if count > MOST_STATES {

@@ -1,5 +1,5 @@
 use Rattle.std.proofs.Common.{◌≡◌, ◌+◌, cond, ap, sym, ◌∙◌, arith}
-use Rattle.reduction.proofs.Dividing.{rest_all, resting_all, rests_at, turn_less, turn_rests}
+use Rattle.reduction.proofs.Dividing.{rest_all, resting_all, turn_less, turn_rests}
 use Rattle.reduction.proofs.Splitting.{few_parts}
 use Rattle.reduction.proofs.division.Division.settle.Goals as goal
 use Rattle.reduction.proofs.division.Division.settle.Goals.{then-divided, else-divided}
@@ -19,7 +19,7 @@ loop-self-preserved g c = (
   c.meet_brother-divided.ensures.sorted,
   c.meet_brother-divided.ensures.even,
   turn_rests _ _ _ _ _ _ _ _ _ _ _ c.loop-self.invariant.3 (quiet_is g c)
-      (λ e. let r = rests_at _ _ _ _ _ c.at.ensures (c.meet_brother-divided.ensures.rest e) in (r.same.0, r.same.1, r.rests)) c.loop-self.invariant.2,
+      (λ e. let r = c.meet_brother-divided.ensures.rest e in (r.same.0, r.same.1, r.rests)) c.loop-self.invariant.2,
   omega arith,
   omega (arith, quiet_is g c, c.if-quiet-list.true),
 )
@@ -27,6 +27,6 @@ loop-self-preserved g c = (
 pub returns-else-quiet-list : goal.returns-else-quiet-list
 returns-else-quiet-list g c = record {
   sorted = c.loop-self.invariant.0;
-  even = rest_all (g.R.Ruling.meaning c.args.ruling.now) _ _ _ _ c.requires.listed c.loop-self.invariant.0.classed c.loop-self.invariant.1
+  even = rest_all (g.R.Ruling.meaning c.args.ruling.now) _ _ _ c.requires.listed c.loop-self.invariant.0.classed c.loop-self.invariant.1
       (resting_all _ _ _ _ _ _ _ c.loop-self.invariant.3 (omega arith) c.loop-self.invariant.2);
 }

@@ -1,5 +1,5 @@
-use Rattle.std.proofs.Common.{◌<◌, List, All, sym, subst, arith}
-use Rattle.reduction.specs.Dividing.{Keys, Level, Split, Fewer, class_key}
+use Rattle.std.proofs.Common.{◌<◌, All, sym, subst, arith}
+use Rattle.reduction.specs.Dividing.{Split, Fewer, class_key}
 use Rattle.reduction.proofs.Dividing.{all_small, keys_same, class_key_same, split_classed, split_lives, fewer_lives}
 use Rattle.reduction.proofs.division.Division.sweep.Goals as goal
 
