@@ -14,39 +14,28 @@ use Rattle.ruling.specs.Written.{mark_byte}
 use Rattle.ruling.proofs.Plugging.{inside, reached_around}
 use Rattle.ruling.proofs.Growth.{run_reached}
 use Rattle.ruling.proofs.Rows.{mark_told}
-use Rattle.reduction.specs.declared.place.Place.{Place}
-use Rattle.reduction.specs.declared.place.Place.TheVariants.{Under, Left, Right}
+use Rattle.reduction.specs.declared.context.Context.{Context}
+use Rattle.reduction.specs.declared.context.Context.TheVariants.{Under, Left, Right}
 use Rattle.reduction.specs.Searching as searching
 use Rattle.reduction.specs.declared.division.Division.{Division}
 use Rattle.reduction.specs.Searching.{Listing}
-use Rattle.reduction.specs.Dividing.{Context, stepped, Parts, Coarse, Classed, Alone, Lives, Keys, class_key, mark_key, LevelAt, Level, Split, Fewer, Even, EvenUnder, EvenBoth, EvenBeside, AllEven, Resting, Whole}
+use Rattle.reduction.specs.Dividing.{IsContext, stepped, Parts, Coarse, Classed, Alone, Lives, Keys, class_key, mark_key, LevelAt, Level, Split, Fewer, Even, EvenUnder, EvenBoth, EvenBeside, AllEven, Resting, Whole}
 use Rattle.reduction.specs.Divisions.{Sorted, Finer, RestsAt}
 use Rattle.reduction.proofs.Bounds.{reached_below, list_reached}
 use Rattle.reduction.proofs.Searching.{true_false}
 
-pub stepped_list : (m : Meaning) (k : ℕ) (place : Place) (r p : ℕ) → Context m k place r → Reached m.kinds m p → Reached m.kinds m (stepped m k place r p)
-stepped_list m k Under r p at h = list_reached m k p 0 (searching.one at h refl)
-stepped_list m k Left r p at h = list_reached m k p r (searching.two at.0 h at.1)
-stepped_list m k Right r p at h = list_reached m k r p (searching.two at.0 at.1 h)
+pub stepped_list : (m : Meaning) (x : Context) (p : ℕ) → IsContext m x → Reached m.kinds m p → Reached m.kinds m (stepped m x p)
+stepped_list m (Under k) p at h = list_reached m k p 0 (searching.one at h refl)
+stepped_list m (Left k r) p at h = list_reached m k p r (searching.two at.0 h at.1)
+stepped_list m (Right k r) p at h = list_reached m k r p (searching.two at.0 at.1 h)
 
 -- What no surrounding tells apart leads to what no surrounding tells apart.
-pub stepped_same : (m : Meaning) (k : ℕ) (place : Place) (r p q : ℕ) → Context m k place r → Same m.kinds m p q
-    → Same m.kinds m (stepped m k place r p) (stepped m k place r q)
-stepped_same m k Under r p q at e = inside m.kinds m (under k gap) (at, tt) p q e
-stepped_same m k Left r p q at e = subst (λ x. Same m.kinds m (m.target k p x) (m.target k q x)) at.1.runs
+pub stepped_same : (m : Meaning) (x : Context) (p q : ℕ) → IsContext m x → Same m.kinds m p q → Same m.kinds m (stepped m x p) (stepped m x q)
+stepped_same m (Under k) p q at e = inside m.kinds m (under k gap) (at, tt) p q e
+stepped_same m (Left k r) p q at e = subst (λ y. Same m.kinds m (m.target k p y) (m.target k q y)) at.1.runs
     (inside m.kinds m (left k gap at.1.tree) (at.0, tt, at.1.over) p q e)
-stepped_same m k Right r p q at e = subst (λ x. Same m.kinds m (m.target k x p) (m.target k x q)) at.1.runs
+stepped_same m (Right k r) p q at e = subst (λ y. Same m.kinds m (m.target k y p) (m.target k y q)) at.1.runs
     (inside m.kinds m (right k at.1.tree gap) (at.0, at.1.over, tt) p q e)
-
--- The context in each place.
-pub at_under : (m : Meaning) (k : ℕ) (place : Place) (r : ℕ) → place ≡ Under → Context m k place r → Kind m.kinds k 1
-at_under m k place r e = subst (λ x. Context m k x r → Kind m.kinds k 1) (sym e) (λ h. h)
-
-pub at_left : (m : Meaning) (k : ℕ) (place : Place) (r : ℕ) → place ≡ Left → Context m k place r → Kind m.kinds k 2 × Reached m.kinds m r
-at_left m k place r e = subst (λ x. Context m k x r → Kind m.kinds k 2 × Reached m.kinds m r) (sym e) (λ h. h)
-
-pub at_right : (m : Meaning) (k : ℕ) (place : Place) (r : ℕ) → place ≡ Right → Context m k place r → Kind m.kinds k 2 × Reached m.kinds m r
-at_right m k place r e = subst (λ x. Context m k x r → Kind m.kinds k 2 × Reached m.kinds m r) (sym e) (λ h. h)
 
 -- One live state more has its key, which may be any that R allows.
 pub keys_more : (R : ℕ → ℕ → Type 0) (live key : List ℕ) (s v : ℕ) → s < length key → R s v → All (λ p. R p (get_or key p 0)) live
@@ -102,10 +91,9 @@ pub keys_same : (m : Meaning) (f : ℕ → ℕ) (class live key : List ℕ) → 
 keys_same m f class live key lives same keys p q x y e = All-contains (λ z. get_or key z 0 ≡ f z) live p keys x
     ∙ (same p q (All-contains (Reached m.kinds m) live p lives.reached x) (All-contains (Reached m.kinds m) live q lives.reached y) e ∙ sym (All-contains (λ z. get_or key z 0 ≡ f z) live q keys y))
 
-pub class_key_same : (m : Meaning) (class : List ℕ) (k : ℕ) (place : Place) (r : ℕ) → Coarse m class → Context m k place r
-    → (p q : ℕ) → Reached m.kinds m p → Reached m.kinds m q → Same m.kinds m p q → class_key m class k place r p ≡ class_key m class k place r q
-class_key_same m class k place r coarse at p q hp hq e =
-    coarse _ _ (stepped_list m k place r p at hp) (stepped_list m k place r q at hq) (stepped_same m k place r p q at e)
+pub class_key_same : (m : Meaning) (class : List ℕ) (x : Context) → Coarse m class → IsContext m x
+    → (p q : ℕ) → Reached m.kinds m p → Reached m.kinds m q → Same m.kinds m p q → class_key m class x p ≡ class_key m class x q
+class_key_same m class x coarse at p q hp hq e = coarse _ _ (stepped_list m x p at hp) (stepped_list m x q at hq) (stepped_same m x p q at e)
 
 pub mark_key_same : (m : Meaning) (p q : ℕ) → Reached m.kinds m p → Reached m.kinds m q → Same m.kinds m p q → mark_key m p ≡ mark_key m q
 mark_key_same m p q hp hq e = ap mark_byte (e gap tt)
@@ -177,26 +165,25 @@ module _ (m : Meaning) (class leader live : List ℕ) (s : ℕ) (lives : Lives m
 
 -- Every member of a class is alone where no state is live.
 pub none_live : (m : Meaning) (class live : List ℕ) → length live ≡ 0 → Lives m class live → AllEven m class
-none_live m class live z lives k place r at p q hp hq e = go (lives.others p hp)
+none_live m class live z lives x at p q hp hq e = go (lives.others p hp)
   where
-    go : Contains live p ⊎ Alone m class p → get_or class (stepped m k place r p) 0 ≡ get_or class (stepped m k place r q) 0
-    go (inl x) = absurd (omega (arith, x.1))
-    go (inr x) = ap (λ y. get_or class (stepped m k place r y) 0) (sym (x q hq (sym e)))
+    go : Contains live p ⊎ Alone m class p → get_or class (stepped m x p) 0 ≡ get_or class (stepped m x q) 0
+    go (inl h) = absurd (omega (arith, h.1))
+    go (inr h) = ap (λ y. get_or class (stepped m x y) 0) (sym (h q hq (sym e)))
 
 -- One class alone leads nowhere else.
 pub one_class : (m : Meaning) (class leader : List ℕ) → length leader ≤ 1 → Parts class leader → AllEven m class
-one_class m class leader few parts k place r at p q hp hq e =
-    omega (arith, parts.small (stepped m k place r p), parts.small (stepped m k place r q))
+one_class m class leader few parts x at p q hp hq e = omega (arith, parts.small (stepped m x p), parts.small (stepped m x q))
 
 module _ (m : Meaning) (class leader : List ℕ) (k : Classed m class leader) (even : AllEven m class) where
   around_class : (p q : ℕ) → Reached m.kinds m p → Reached m.kinds m q → get_or class p 0 ≡ get_or class q 0
       → (s : Surrounding) → SurroundingOver m.kinds s → get_or class (around m s p) 0 ≡ get_or class (around m s q) 0
   around_class p q hp hq e gap o = e
-  around_class p q hp hq e (under k s) o = even k Under 0 o.0 (around m s p) (around m s q)
+  around_class p q hp hq e (under k s) o = even (Under k) o.0 (around m s p) (around m s q)
       (reached_around m.kinds m s o.1 p hp) (reached_around m.kinds m s o.1 q hq) (around_class p q hp hq e s o.1)
-  around_class p q hp hq e (left k s t) o = even k Left (run m t) (o.0, run_reached m.kinds m t o.2) (around m s p) (around m s q)
+  around_class p q hp hq e (left k s t) o = even (Left k (run m t)) (o.0, run_reached m.kinds m t o.2) (around m s p) (around m s q)
       (reached_around m.kinds m s o.1 p hp) (reached_around m.kinds m s o.1 q hq) (around_class p q hp hq e s o.1)
-  around_class p q hp hq e (right k t s) o = even k Right (run m t) (o.0, run_reached m.kinds m t o.1) (around m s p) (around m s q)
+  around_class p q hp hq e (right k t s) o = even (Right k (run m t)) (o.0, run_reached m.kinds m t o.1) (around m s p) (around m s q)
       (reached_around m.kinds m s o.2 p hp) (reached_around m.kinds m s o.2 q hq) (around_class p q hp hq e s o.2)
 
   -- Sound classes whose members lead to one class in every context are the classes.
@@ -224,9 +211,9 @@ rest_all w order class leader list sound unders besides = all
     few k z kind = omega (arith, kind.0, w.list.1)
 
     all : AllEven w.plain class
-    all k Under r at p q hp hq e = unders k (few k 1 at) at p q hp hq e
-    all k Left r at p q hp hq e = (beside r at.1 k (few k 2 at.0) at.0).0 p q hp hq e
-    all k Right r at p q hp hq e =
+    all (Under k) at p q hp hq e = unders k (few k 1 at) at p q hp hq e
+    all (Left k r) at p q hp hq e = (beside r at.1 k (few k 2 at.0) at.0).0 p q hp hq e
+    all (Right k r) at p q hp hq e =
         let l = get_or leader (get_or class r 0) 0 in
         let small = sound.parts.small r in
         let hl = sound.led (get_or class r 0) 0 small in
@@ -295,7 +282,7 @@ finer_on m d e f P Q R to p q = record {
     late z = omega (arith, p.more, q.more)
 
 -- A brother that does not lead its class has one side only.
-pub both_one : (m : Meaning) (class leader : List ℕ) (k r : ℕ) → false ≡ eqb (get_or leader (get_or class r 0) 0) r → Even m class k Left r → EvenBoth m class leader k r
+pub both_one : (m : Meaning) (class leader : List ℕ) (k r : ℕ) → false ≡ eqb (get_or leader (get_or class r 0) 0) r → Even m class (Left k r) → EvenBoth m class leader k r
 both_one m class leader k r e h = (h, λ f. absurd (true_false _ (eq-eqb _ _ f) (sym e)))
 
 pub rests_at : (m : Meaning) (d e : Division) (r s : ℕ) → r ≡ s → RestsAt m d e r → RestsAt m d e s
@@ -312,6 +299,10 @@ pub turn_less : (b : Bool) (c c' n quiet quiet' : ℕ) → quiet < n → n ≤ 1
     → (1089 - c') * 2000 + (n - quiet') < (1089 - c) * 2000 + (n - quiet)
 turn_less true c c' n quiet quiet' h few small more same e = let z = more refl in omega arith
 turn_less false c c' n quiet quiet' h few small more same e = let z = same refl in omega arith
+
+pub turn_quiet : (b : Bool) (n quiet quiet' : ℕ) → quiet < n → quiet' ≡ cond b 0 (quiet + 1) → quiet' ≤ n
+turn_quiet true n quiet quiet' h e = omega arith
+turn_quiet false n quiet quiet' h e = omega arith
 
 -- and as many rest as are said to.
 pub turn_rests : (m : Meaning) (order : List ℕ) (n : ℕ) (class leader class' leader' : List ℕ) (b : Bool) (quiet quiet' next : ℕ) → next < n

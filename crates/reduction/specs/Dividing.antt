@@ -4,20 +4,20 @@ use Rattle.ruling.specs.Trees.{Kind}
 use Rattle.ruling.specs.Meanings.{Meaning}
 use Rattle.ruling.specs.Classes.{Reached, Same}
 use Rattle.ruling.specs.Written.{mark_byte}
-use Rattle.reduction.specs.declared.place.Place.{Place}
-use Rattle.reduction.specs.declared.place.Place.TheVariants.{Under, Left, Right}
+use Rattle.reduction.specs.declared.context.Context.{Context}
+use Rattle.reduction.specs.declared.context.Context.TheVariants.{Under, Left, Right}
 
--- A context is a kind, a place below it, and the brother there, which is reached.
-abbrev pub Context : Meaning → ℕ → Place → ℕ → Type 0
-Context m k Under r = Kind m.kinds k 1
-Context m k Left r = Kind m.kinds k 2 × Reached m.kinds m r
-Context m k Right r = Kind m.kinds k 2 × Reached m.kinds m r
+-- The kind has the rank of the context, and the brother is reached.
+abbrev pub IsContext : Meaning → Context → Type 0
+IsContext m (Under k) = Kind m.kinds k 1
+IsContext m (Left k r) = Kind m.kinds k 2 × Reached m.kinds m r
+IsContext m (Right k r) = Kind m.kinds k 2 × Reached m.kinds m r
 
 -- Where the state p leads in a context.
-abbrev pub stepped : Meaning → ℕ → Place → ℕ → ℕ → ℕ
-stepped m k Under r p = m.target k p 0
-stepped m k Left r p = m.target k p r
-stepped m k Right r p = m.target k r p
+abbrev pub stepped : Meaning → Context → ℕ → ℕ
+stepped m (Under k) p = m.target k p 0
+stepped m (Left k r) p = m.target k p r
+stepped m (Right k r) p = m.target k r p
 
 -- Each class has its leader, a state's number, as a member.
 pub record Parts (class leader : List ℕ) : Type 0 where
@@ -55,8 +55,8 @@ abbrev pub Keys : (ℕ → ℕ) → List ℕ → List ℕ → Type 0
 Keys f live key = All (λ p. slice_index key p ≡ f p) live
 
 -- The key of a state is the class that it leads to in the context.
-abbrev pub class_key : Meaning → List ℕ → ℕ → Place → ℕ → ℕ → ℕ
-class_key m class k place r p = slice_index class (stepped m k place r p)
+abbrev pub class_key : Meaning → List ℕ → Context → ℕ → ℕ
+class_key m class x p = slice_index class (stepped m x p)
 
 -- The key of a state is its mark.
 abbrev pub mark_key : Meaning → ℕ → ℕ
@@ -94,17 +94,17 @@ pub record Fewer (live class after : List ℕ) : Type 0 where
   pub gone : (p : ℕ) → Contains live p → Contains after p ⊎ ((q : ℕ) → Contains live q → slice_index class q ≡ slice_index class p → q ≡ p)
 
 -- Members of a class lead to one class in the context.
-abbrev pub Even : Meaning → List ℕ → ℕ → Place → ℕ → Type 0
-Even m class k place r = (p q : ℕ) → Reached m.kinds m p → Reached m.kinds m q → slice_index class p ≡ slice_index class q
-    → slice_index class (stepped m k place r p) ≡ slice_index class (stepped m k place r q)
+abbrev pub Even : Meaning → List ℕ → Context → Type 0
+Even m class x = (p q : ℕ) → Reached m.kinds m p → Reached m.kinds m q → slice_index class p ≡ slice_index class q
+    → slice_index class (stepped m x p) ≡ slice_index class (stepped m x q)
 
 -- Below every sign of the first n kinds.
 abbrev pub EvenUnder : Meaning → List ℕ → ℕ → Type 0
-EvenUnder m class n = (k : ℕ) → k < n → Kind m.kinds k 1 → Even m class k Under 0
+EvenUnder m class n = (k : ℕ) → k < n → Kind m.kinds k 1 → Even m class (Under k)
 
 -- Beside the brother r below kind k: as the left child, and as the right one where r leads its class.
 abbrev pub EvenBoth : Meaning → List ℕ → List ℕ → ℕ → ℕ → Type 0
-EvenBoth m class leader k r = Even m class k Left r × (slice_index leader (slice_index class r) ≡ r → Even m class k Right r)
+EvenBoth m class leader k r = Even m class (Left k r) × (slice_index leader (slice_index class r) ≡ r → Even m class (Right k r))
 
 -- Below every join of the first n kinds.
 abbrev pub EvenBeside : Meaning → List ℕ → List ℕ → ℕ → ℕ → Type 0
@@ -112,7 +112,7 @@ EvenBeside m class leader n r = (k : ℕ) → k < n → Kind m.kinds k 2 → Eve
 
 -- In every context.
 abbrev pub AllEven : Meaning → List ℕ → Type 0
-AllEven m class = (k : ℕ) (place : Place) (r : ℕ) → Context m k place r → Even m class k place r
+AllEven m class = (x : Context) → IsContext m x → Even m class x
 
 -- Of the n brothers in order, taken in a circle, the last `quiet` before `next` divide nothing.
 abbrev pub Resting : Meaning → List ℕ → ℕ → List ℕ → List ℕ → ℕ → ℕ → Type 0

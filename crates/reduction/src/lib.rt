@@ -2,6 +2,7 @@
 #![tactic(auto)]
 
 mod begin;
+mod context;
 mod division;
 mod fill;
 mod found;
@@ -9,7 +10,6 @@ mod keys;
 mod number;
 mod numbering;
 mod partition;
-mod place;
 mod questions;
 mod refine;
 mod refresh;

@@ -1,24 +1,24 @@
-ghost use Rattle.std.specs.Prelude.{◌≡◌, ◌<◌, true, false, ◌==◌, length, slice_index};
+ghost use Rattle.std.specs.Prelude.{◌≡◌, ◌+◌, ◌<◌, true, false, if◌then◌else◌, ◌==◌, length, slice_index};
 ghost use Rattle.ruling.specs.Trees.{Kind};
 ghost use Rattle.ruling.specs.Classes.{Reached, Classes};
-ghost use Rattle.reduction.specs.declared.place.Place.TheVariants.{Under};
+ghost use Rattle.reduction.specs.declared.context.Context.TheVariants.{Under};
 ghost use Rattle.reduction.specs.Dividing.{Even, EvenUnder, EvenBoth, EvenBeside, AllEven};
 ghost use Rattle.reduction.specs.Divisions.{Sorted, Finer, RestsAt};
 ghost use Rattle.reduction.specs.Searching.{Listing};
 
+use super::context::Context;
 use super::division::Division;
 use super::partition::Partition;
-use super::place::Place;
 use ruling::Ruling;
 
 impl Division {
     // Sweeps below a sign of this kind, if it is one.
     fn under_kind<R: Ruling>(&mut self, ruling: &R, kind: u8)
         requires { Sorted (R.Ruling.meaning ruling.now).plain self.old }
-        ensures { Finer (R.Ruling.meaning ruling.now).plain self.old self.new (λ class leader. (Kind (R.Ruling.meaning ruling.now).plain.kinds kind 1 → Even (R.Ruling.meaning ruling.now).plain class kind Under 0)) }
+        ensures { Finer (R.Ruling.meaning ruling.now).plain self.old self.new (λ class leader. (Kind (R.Ruling.meaning ruling.now).plain.kinds kind 1 → Even (R.Ruling.meaning ruling.now).plain class (Under kind))) }
     {
         if let Some(1) = ruling.rank(kind) {
-            self.sweep(ruling, kind, Place::Under, 0);
+            self.sweep(ruling, Context::Under { kind });
         }
     }
 
@@ -63,12 +63,12 @@ impl Division {
         ensures { Finer (R.Ruling.meaning ruling.now).plain self.old self.new (λ class leader. EvenBoth (R.Ruling.meaning ruling.now).plain class leader kind brother) }
     {
         let before = self.partition.count();
-        self.sweep(ruling, kind, Place::Left, brother);
+        self.sweep(ruling, Context::Left { kind, brother });
         if self.partition.count() != before {
             return;
         }
         if self.leads(brother) {
-            self.sweep(ruling, kind, Place::Right, brother);
+            self.sweep(ruling, Context::Right { kind, brother });
         }
     }
 
@@ -97,18 +97,19 @@ impl Division {
         }
     }
 
-    // Sweeps beside a brother, and below the signs again if that divided anything; answers whether it did.
-    fn meet_brother<R: Ruling>(&mut self, ruling: &R, brother: u16) -> bool
+    // Sweeps beside the brother at a place of the list, and below the signs again if that divided anything; answers whether it did.
+    fn meet_brother<R: Ruling>(&mut self, ruling: &R, list: &[u16], place: usize) -> bool
         requires sorted { Sorted (R.Ruling.meaning ruling.now).plain self.old }
-        requires brother { Reached (R.Ruling.meaning ruling.now).plain.kinds (R.Ruling.meaning ruling.now).plain brother }
+        requires listed { Listing (R.Ruling.meaning ruling.now).plain list.now }
+        requires place { place < length list.now }
         requires even { EvenUnder (R.Ruling.meaning ruling.now).plain self.old.partition.class 16 }
         ensures sorted { Sorted (R.Ruling.meaning ruling.now).plain self.new }
         ensures even { EvenUnder (R.Ruling.meaning ruling.now).plain self.new.partition.class 16 }
         ensures more { result ≡ true → length self.old.partition.leader.items < length self.new.partition.leader.items }
-        ensures rest { result ≡ false → RestsAt (R.Ruling.meaning ruling.now).plain self.old self.new brother }
+        ensures rest { result ≡ false → RestsAt (R.Ruling.meaning ruling.now).plain self.old self.new (slice_index list.now place) }
     {
         let before = self.partition.count();
-        self.beside(ruling, brother);
+        self.beside(ruling, list[place]);
         if self.partition.count() == before {
             return false;
         }
@@ -131,11 +132,19 @@ impl Division {
         let mut quiet = 0;
         let mut next = 0;
         while !self.live.is_empty() && quiet < list.len() {
-            let divided = self.meet_brother(ruling, list[next]);
-            quiet = if divided { 0 } else { quiet + 1 };
+            let divided = self.meet_brother(ruling, list, next);
+            quiet = quiet_after(divided, quiet);
             next = (next + 1) % list.len();
         }
     }
+}
+
+// How many brothers in a row have divided nothing. A function of its own, so that the check names it where this is counted wrong.
+fn quiet_after(divided: bool, quiet: usize) -> usize
+    requires { quiet < 1089 }
+    ensures { result ≡ (if divided then 0 else quiet + 1) }
+{
+    if divided { 0 } else { quiet + 1 }
 }
 
 // Divides the listed states into classes: two have one class exactly if no surrounding tells them apart.

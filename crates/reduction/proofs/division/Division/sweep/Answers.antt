@@ -14,8 +14,8 @@ pub returns-then-count-before : goal.returns-then-count-before
 returns-then-count-before g c =
     let m = (g.R.Ruling.meaning c.args.ruling.now).plain in
     let old = c.requires.sorted in
-    let keys = keys_same m (class_key m c.args.self.now.partition.class c.args.kind c.args.place c.args.brother) _ _ _ old.lives
-    (class_key_same m _ _ _ _ old.classed.coarse c.requires.context) c.classes_ahead-key.ensures in
+    let keys = keys_same m (class_key m c.args.self.now.partition.class c.args.context) _ _ _ old.lives
+    (class_key_same m _ _ old.classed.coarse c.requires.context) c.classes_ahead-key.ensures in
     let split = subst (λ xs. Split xs c.classes_ahead-key.result c.args.self.now.partition.class c.args.self.now.partition.leader.items c.split.new.self.class c.split.new.self.leader.items) c.deref.ensures.0 c.split.ensures.split in
     record {
       sorted = record {

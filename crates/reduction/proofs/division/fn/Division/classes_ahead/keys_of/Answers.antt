@@ -9,4 +9,4 @@ onward-requires g c = record { context = c.requires.context; reached = c.require
 
 pub bounds-class-onward : goal.bounds-class-onward
 bounds-class-onward g c = place_of (g.R.Ruling.meaning c.captures.ruling.now) _ _ refl
-    (reached_as _ _ _ c.onward.ensures (stepped_list _ _ _ _ _ c.requires.context c.requires.reached))
+    (reached_as _ _ _ c.onward.ensures (stepped_list _ _ _ c.requires.context c.requires.reached))
