@@ -37,16 +37,6 @@ stepped_same m (Left k r) p q at e = subst (λ y. Same m.kinds m (m.target k p y
 stepped_same m (Right k r) p q at e = subst (λ y. Same m.kinds m (m.target k y p) (m.target k y q)) at.1.runs
     (inside m.kinds m (right k at.1.tree gap) (at.0, at.1.over, tt) p q e)
 
--- One live state more has its key, which may be any that R allows.
-pub keys_more : (R : ℕ → ℕ → Type 0) (live key : List ℕ) (s v : ℕ) → s < length key → R s v → All (λ p. R p (get_or key p 0)) live
-    → All (λ p. R p (get_or (set key s v) p 0)) (live ++ s ∷ [])
-keys_more R live key s v room h done = All-push (λ p. R p (get_or (set key s v) p 0)) live s (λ k d l. go (get_or live k d) (ℕ_discrete (get_or live k d) s) (done k d l))
-    (subst (R s) (sym (get_or-set_same key s v 0 room)) h)
-  where
-    go : (p : ℕ) → Dec (p ≡ s) → R p (get_or key p 0) → R p (get_or (set key s v) p 0)
-    go p (yes e) was = subst (λ z. R z (get_or (set key s v) z 0)) (sym e) (subst (R s) (sym (get_or-set_same key s v 0 room)) h)
-    go p (no e) was = subst (R p) (sym (get_or-set_other key s p v 0 e)) was
-
 -- Reached states are numbers for states.
 pub all_small : (w : Ruled) (xs : List ℕ) → All (Reached w.plain.kinds w.plain) xs → All (λ s. s < 1089) xs
 all_small w xs hit k d h = omega (arith, reached_below w (get_or xs k d) (hit k d h), w.few)

@@ -8,22 +8,6 @@ use Rattle.reduction.proofs.Searching.{true_false}
 abbrev Noted : List ℕ → List ℕ → List Bool → ℕ → Type 0
 Noted class leader shared p = ¬ (get_or leader (get_or class p 0) 0 ≡ p) → get_or shared (get_or class p 0) false ≡ true
 
--- Marks of shared classes: one live state more, whose class is marked if it does not lead it.
-pub shared_yes : (live class leader : List ℕ) (shared : List Bool) (s : ℕ) → get_or class s 0 < length shared
-    → Shared live class leader shared → Shared (live ++ s ∷ []) class leader (set shared (get_or class s 0) true)
-shared_yes live class leader shared s room done = All-push (Noted class leader (set shared (get_or class s 0) true)) live s
-    (λ k d h ne. go (get_or live k d) (ℕ_discrete (get_or class (get_or live k d) 0) (get_or class s 0)) (done k d h ne))
-    (λ ne. get_or-set_same shared (get_or class s 0) true false room)
-  where
-    go : (p : ℕ) → Dec (get_or class p 0 ≡ get_or class s 0) → get_or shared (get_or class p 0) false ≡ true
-        → get_or (set shared (get_or class s 0) true) (get_or class p 0) false ≡ true
-    go p (yes e) was = ap (λ z. get_or (set shared (get_or class s 0) true) z false) e ∙ get_or-set_same shared (get_or class s 0) true false room
-    go p (no e) was = get_or-set_other shared (get_or class s 0) (get_or class p 0) true false e ∙ was
-
-pub shared_no : (live class leader : List ℕ) (shared : List Bool) (s : ℕ) → get_or leader (get_or class s 0) 0 ≡ s
-    → Shared live class leader shared → Shared (live ++ s ∷ []) class leader shared
-shared_no live class leader shared s leads done = All-push (Noted class leader shared) live s done (λ ne. absurd (ne leads))
-
 -- What passes a test stands in the filtered list.
 pub filter_holds : (test : ℕ → Bool) (xs : List ℕ) → All (λ x. (test x ≡ true → Contains (filter test xs) x)) xs
 filter_holds test [] = λ k d h. absurd (omega arith)

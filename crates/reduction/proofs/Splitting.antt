@@ -8,48 +8,6 @@ use Rattle.ruling.proofs.Pigeons.{pigeons}
 use Rattle.reduction.specs.Dividing.{Parts, LevelAt, Split, Moved}
 use Rattle.reduction.proofs.Bounds.{fresh}
 
--- One live state more is looked at: it is moved, if it is of class a with key v.
-module _ (live key class : List ℕ) (a v c : ℕ) (class' : List ℕ) (s : ℕ) (done : Moved live key class a v c class') where
-  abbrev Goes : List ℕ → ℕ → Type 0
-  Goes after p = get_or class p 0 ≡ a → get_or key p 0 ≡ v → get_or after p 0 ≡ c
-
-  pub moved_yes : get_or class' s 0 ≡ a → get_or key s 0 ≡ v → s < length class' → Moved (live ++ s ∷ []) key class a v c (set class' s c)
-  moved_yes e f room = record {
-    only = λ p. only p (ℕ_discrete p s);
-    all = All-push (Goes (set class' s c)) live s (λ k d h. all (get_or live k d) (ℕ_discrete (get_or live k d) s) (done.all k d h)) (λ g h. get_or-set_same class' s c 0 room);
-  }
-    where
-      only : (p : ℕ) → Dec (p ≡ s) → (get_or (set class' s c) p 0 ≡ get_or class p 0) ⊎ ((get_or class p 0 ≡ a) × (get_or key p 0 ≡ v) × (get_or (set class' s c) p 0 ≡ c))
-      only p (no d) = off (done.only p)
-        where
-          off : (get_or class' p 0 ≡ get_or class p 0) ⊎ ((get_or class p 0 ≡ a) × (get_or key p 0 ≡ v) × (get_or class' p 0 ≡ c))
-              → (get_or (set class' s c) p 0 ≡ get_or class p 0) ⊎ ((get_or class p 0 ≡ a) × (get_or key p 0 ≡ v) × (get_or (set class' s c) p 0 ≡ c))
-          off (inl g) = inl (get_or-set_other class' s p c 0 d ∙ g)
-          off (inr g) = inr (g.0, g.1, get_or-set_other class' s p c 0 d ∙ g.2)
-      only p (yes d) = on (done.only p)
-        where
-          here : get_or (set class' s c) p 0 ≡ c
-          here = ap (λ z. get_or (set class' s c) z 0) d ∙ get_or-set_same class' s c 0 room
-
-          on : (get_or class' p 0 ≡ get_or class p 0) ⊎ ((get_or class p 0 ≡ a) × (get_or key p 0 ≡ v) × (get_or class' p 0 ≡ c))
-              → (get_or (set class' s c) p 0 ≡ get_or class p 0) ⊎ ((get_or class p 0 ≡ a) × (get_or key p 0 ≡ v) × (get_or (set class' s c) p 0 ≡ c))
-          on (inl g) = inr (sym g ∙ (ap (λ z. get_or class' z 0) d ∙ e), ap (λ z. get_or key z 0) d ∙ f, here)
-          on (inr g) = inr (g.0, g.1, here)
-
-      all : (p : ℕ) → Dec (p ≡ s) → Goes class' p → Goes (set class' s c) p
-      all p (yes d) was g h = ap (λ z. get_or (set class' s c) z 0) d ∙ get_or-set_same class' s c 0 room
-      all p (no d) was g h = get_or-set_other class' s p c 0 d ∙ was g h
-
-  pub moved_no : (get_or class' s 0 ≡ a → ¬ (get_or key s 0 ≡ v)) → Moved (live ++ s ∷ []) key class a v c class'
-  moved_no other = record { only = done.only; all = All-push (Goes class') live s done.all (λ g h. go g h (done.only s)) }
-    where
-      go : get_or class s 0 ≡ a → get_or key s 0 ≡ v → (get_or class' s 0 ≡ get_or class s 0) ⊎ ((get_or class s 0 ≡ a) × (get_or key s 0 ≡ v) × (get_or class' s 0 ≡ c)) → get_or class' s 0 ≡ c
-      go g h (inl e) = absurd (other (e ∙ g) h)
-      go g h (inr e) = e.2
-
-pub moved_none : (key class : List ℕ) (a v c : ℕ) → Moved [] key class a v c class
-moved_none key class a v c = record { only = λ p. inl refl; all = λ k d h. absurd (omega arith) }
-
 -- The classes of different leaders are different, so there are no more classes than numbers for leaders.
 pub few_parts : (class leader : List ℕ) → Parts class leader → length leader ≤ 1089
 few_parts class leader parts = pigeons (length leader) 1089 (λ j h. get_or leader j 0) (λ j h. parts.led j 0 h)

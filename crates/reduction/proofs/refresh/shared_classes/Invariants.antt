@@ -1,6 +1,9 @@
-use Rattle.std.proofs.Common.{◌≡◌, length, take}
-use Rattle.reduction.specs.Dividing.{Shared}
+use Rattle.std.proofs.Common.{◌≡◌, ℕ, ◌<◌, true, false, length, get_or}
 use Rattle.reduction.proofs.refresh.shared_classes.Given as goal
 
 abbrev pub invariant-loop-state : goal.invariant-loop-state
-invariant-loop-state l = Shared (take l.state-index l.live) l.partition.class l.partition.leader.items l.shared × (length l.shared ≡ 1089)
+invariant-loop-state l = record {
+  marked : (k : ℕ) → k < l.state-index → ¬ (get_or l.partition.leader.items (get_or l.partition.class (get_or l.live k 0) 0) 0 ≡ get_or l.live k 0)
+      → get_or l.shared (get_or l.partition.class (get_or l.live k 0) 0) false ≡ true;
+  long : length l.shared ≡ 1089;
+}
