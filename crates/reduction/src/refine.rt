@@ -156,7 +156,8 @@ fn next_in_circle(at: u16, count: u16) -> u16
 // Divides the listed states into classes: two have one class exactly if no surrounding tells them apart.
 pub(super) fn classes<R: Ruling>(ruling: &R, list: &[u16]) -> Partition
     requires { Listing (R.Ruling.meaning ruling.now).plain list.now }
-    ensures { Classes (R.Ruling.meaning ruling.now).plain.kinds (R.Ruling.meaning ruling.now).plain result.count (λ s. slice_index result.class s) }
+    ensures classes { Classes (R.Ruling.meaning ruling.now).plain.kinds (R.Ruling.meaning ruling.now).plain result.count (λ s. slice_index result.class s) }
+    ensures small { (p : ℕ) → slice_index result.class p < result.count }
 {
     let mut division = Division::by_marks(ruling, list);
     division.settle(ruling, list);

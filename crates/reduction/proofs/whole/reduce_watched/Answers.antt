@@ -7,5 +7,5 @@ returns-then-partition-gt-MOST_STATES g c = (
   c.classes-partition.result.count,
   refl,
   omega (arith, c.if-partition-gt-MOST_STATES.true),
-  need_of_classes (g.R.Ruling.meaning c.args.ruling.now).plain _ _ c.classes-partition.ensures,
+  need_of_classes (g.R.Ruling.meaning c.args.ruling.now).plain _ _ c.classes-partition.ensures.classes,
 )
