@@ -24,10 +24,10 @@ pub cell_target : (c : Meaning) (k a b : ℕ) → c.states ≤ 32 → Fits c.kin
 cell_target c k a b few f = let w = fits_small c.kinds c.states k a b few f in
     place_parts c k a b w.0 w.1 ∙ ap (λ o. unwrap_or o 0) (fits_targeted c k a b f)
 
-pub cell_number_lem : (m : Meaning) (class rep : List ℕ) (number : List (Option ℕ)) (s k a b x : ℕ) → s ≤ 32 → Fits m.kinds s k a b
-    → Some x ≡ number_of class number (aimed m rep k a b) → x ≡ cell_at (numbered_meaning m class rep number s) (cell_place k a b)
-cell_number_lem m class rep number s k a b x few f e =
-    sym (cell_target (numbered_meaning m class rep number s) k a b few f ∙ ap (λ o. unwrap_or o 0) (sym e))
+pub cell_number_lem : (m : Meaning) (class rep : List ℕ) (number : List (Option ℕ)) (k a b x : ℕ) → length rep ≤ 32 → Fits m.kinds (length rep) k a b
+    → Some x ≡ number_of class number (aimed m rep k a b) → x ≡ cell_at (numbered_meaning m class rep number) (cell_place k a b)
+cell_number_lem m class rep number k a b x few f e =
+    sym (cell_target (numbered_meaning m class rep number) k a b few f ∙ ap (λ o. unwrap_or o 0) (sym e))
 
 pub cell_room : (w : Ruled) (s k a b n : ℕ) → n ≡ 16384 → s ≤ 32 → Fits w.plain.kinds s k a b → cell_place k a b < n
 cell_room w s k a b n e few f = let v = fits_small w.plain.kinds s k a b few f in
@@ -96,5 +96,5 @@ pub filling_at : (c : Meaning) (cells : List ℕ) (k a b v i : ℕ) → i ≡ ce
 filling_at c cells k a b v i e room f before = subst (λ j. Filling c (set cells j v) k a (b + 1)) (sym e) (filling_cell c cells k a b v room f before)
 
 -- The numbered classes have the ruling's kinds, and so its argument lists.
-pub spans_by : (m : Meaning) (class rep : List ℕ) (number : List (Option ℕ)) (s k w v : ℕ) → Spans m s k w v → Spans (numbered_meaning m class rep number s) s k w v
-spans_by m class rep number s k w v sp = record { inside = sp.inside; fits = sp.fits }
+pub spans_by : (m : Meaning) (class rep : List ℕ) (number : List (Option ℕ)) (k w v : ℕ) → Spans m (length rep) k w v → Spans (numbered_meaning m class rep number) (length rep) k w v
+spans_by m class rep number k w v sp = record { inside = sp.inside; fits = sp.fits }

@@ -3,7 +3,6 @@ use Rattle.std.proofs.Common.{◌≡◌, ℕ, suc, ◌+◌, ◌<◌, ◌≤◌, 
 use native.Mathlib.Decide.{ℕ_discrete, dec_lt}
 use Rattle.std.proofs.Math.ListN.{get_or-append}
 use Rattle.std.proofs.Math.Seq.{get_or-append_seam}
-use Rattle.std.proofs.lemmas.List.{get_or_past}
 use Rattle.std.proofs.lemmas.Bool.{eqb-true}
 use Rattle.ruling.specs.Trees.{Kind}
 use Rattle.ruling.specs.Meanings.{Meaning}
@@ -85,14 +84,6 @@ module _ (order : List ℕ) (seen : List Bool) (t : ℕ) (flag : t < length seen
 
   at_new : (i : ℕ) → ¬ (i < length order) → i < length (order ++ t ∷ []) → get_or (order ++ t ∷ []) i 0 ≡ t
   at_new i x h = ap (λ j. get_or (order ++ t ∷ []) j 0) (last i x h) ∙ new
-
-  pub below_one_more : (n : ℕ) → t < n → ((i : ℕ) → get_or order i 0 < n) → (i : ℕ) → get_or (order ++ t ∷ []) i 0 < n
-  below_one_more n h below i = go (dec_lt i (length order)) (dec_lt i (length (order ++ t ∷ [])))
-    where
-      go : Dec (i < length order) → Dec (i < length (order ++ t ∷ [])) → get_or (order ++ t ∷ []) i 0 < n
-      go (yes a) d = subst (λ x. x < n) (sym (old i a)) (below i)
-      go (no a) (yes b) = subst (λ x. x < n) (sym (at_new i a b)) h
-      go (no a) (no b) = subst (λ x. x < n) (sym (get_or_past (order ++ t ∷ []) i 0 (omega arith))) (omega arith)
 
   module _ (m : Meaning) (found : Found m order seen) (hit : Reached m.kinds m t) (fresh : get_or seen t false ≡ false) where
     not_there : (i : ℕ) → i < length order → ¬ (get_or order i 0 ≡ t)

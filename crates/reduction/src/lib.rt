@@ -1,6 +1,7 @@
 // From any ruling to the one smallest table of its set.
 #![tactic(auto)]
 
+mod argument_list;
 mod begin;
 mod context;
 mod division;

@@ -28,7 +28,7 @@ pub fn reduce_watched<R: Ruling, W: Watch>(ruling: &R, watch: &mut W) -> Result<
     }
     let numbering = Numbering::by_discovery(ruling, &partition);
     watch.ended(Phase::Numbering);
-    let table = numbering.table(ruling, &partition);
+    let table = numbering.table();
     watch.ended(Phase::Table);
     Ok(table)
 }
