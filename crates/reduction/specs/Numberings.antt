@@ -11,7 +11,6 @@ use Rattle.reduction.specs.Numbering.{aimed, number_of, Numbered, Opened, number
 -- The partition is that into classes, and there are at most 32.
 pub record FewClasses (m : Meaning) (p : Partition) : Type 0 where
   pub classes : Classes m.kinds m (length p.leader.items) (λ s. slice_index p.class s)
-  pub small : (s : ℕ) → slice_index p.class s < length p.leader.items
   pub few : length p.leader.items ≤ 32
 
 module _ {R : Type 0} {G : Ghosts R} where

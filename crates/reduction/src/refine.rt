@@ -1,4 +1,4 @@
-ghost use Rattle.std.specs.Prelude.{◌≡◌, ℕ, ◌+◌, ◌<◌, true, false, if◌then◌else◌, ◌==◌, length, slice_index};
+ghost use Rattle.std.specs.Prelude.{◌≡◌, ◌+◌, ◌<◌, true, false, if◌then◌else◌, ◌==◌, length, slice_index};
 ghost use Rattle.ruling.specs.Trees.{Kind};
 ghost use Rattle.ruling.specs.Classes.{Reached, Classes};
 ghost use Rattle.reduction.specs.declared.context.Context.TheVariants.{Under};
@@ -150,8 +150,7 @@ fn quiet_after(divided: bool, quiet: usize) -> usize
 // Divides the listed states into classes: two have one class exactly if no surrounding tells them apart.
 pub(super) fn classes<R: Ruling>(ruling: &R, list: &[u16]) -> Partition
     requires { Listing (R.Ruling.meaning ruling.now).plain list.now }
-    ensures classes { Classes (R.Ruling.meaning ruling.now).plain.kinds (R.Ruling.meaning ruling.now).plain (length result.leader.items) (λ s. slice_index result.class s) }
-    ensures small { (p : ℕ) → slice_index result.class p < length result.leader.items }
+    ensures { Classes (R.Ruling.meaning ruling.now).plain.kinds (R.Ruling.meaning ruling.now).plain (length result.leader.items) (λ s. slice_index result.class s) }
 {
     let mut division = Division::by_marks(ruling, list);
     division.settle(ruling, list);

@@ -10,5 +10,5 @@ returns-then-count-gt-MOST_STATES g c =
       c.count-count.result,
       refl,
       omega (arith, c.if-count-gt-MOST_STATES.true),
-      subst (Need m.kinds (accepts m)) (sym c.count-count.ensures.value) (need_of_classes m _ _ c.classes-partition.ensures.classes),
+      subst (Need m.kinds (accepts m)) (sym c.count-count.ensures.value) (need_of_classes m _ _ c.classes-partition.ensures),
     )
