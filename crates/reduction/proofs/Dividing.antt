@@ -1,11 +1,15 @@
 -- Classes divided by a context: what no surrounding tells apart stays together.
-use Rattle.std.proofs.Common.{◌≡◌, ℕ, ◌+◌, ◌-◌, ◌*◌, ◌%◌, ◌<◌, ◌≤◌, Bool, true, false, cond, eqb, ◌⊎◌, List, [], ◌∷◌, ◌++◌, All, Contains, length, get_or, set, sym, refl, ap, ◌∙◌, subst, inl, inr, arith, get_or-set_other, get_or-set_same}
+use Rattle.std.proofs.Common.{◌≡◌, ℕ, zero, suc, ◌+◌, ◌-◌, ◌*◌, ◌%◌, ◌<◌, ◌≤◌, Bool, true, false, cond, eqb, ◌⊎◌, List, [], All, Contains, length, get_or, sym, refl, ap, ◌∙◌, subst, inl, inr, arith}
+use mathlib.Core.Bool.{Bool-set}
+use mathlib.Core.Logic.{∥∥₁_elim, ∥∥₁_map}
 use native.Mathlib.Decide.{ℕ_discrete, dec_lt}
+use native.Mathlib.Nat.{ℕ_set}
+use Rattle.std.proofs.Math.Bridge.{le_prop}
 use Rattle.std.proofs.lemmas.Bool.{eq-eqb}
-use Rattle.std.proofs.lemmas.List.Elements.{All-cons, All-contains, All-from_get_or, All-nil, All-push, Contains-get_or}
+use Rattle.std.proofs.lemmas.List.Elements.{All-cons, All-contains, All-from_get_or, All-nil, Contains-get_or}
 use Rattle.std.proofs.Math.Nat.{mod_self, mod-eq_of_lt}
 use Rattle.ruling.specs.Trees.{Kind}
-use Rattle.ruling.specs.Meanings.{Meaning}
+use Rattle.ruling.specs.Meanings.{Meaning, one, two}
 use Rattle.ruling.specs.Rulings.{Ruled}
 use Rattle.ruling.specs.Surroundings.{Surrounding, gap, under, left, right, SurroundingOver, around}
 use Rattle.ruling.specs.Classes.{Reached, Same, Classes}
@@ -17,10 +21,10 @@ use Rattle.ruling.proofs.Rows.{mark_told}
 use Rattle.reduction.specs.declared.context.Context.{Context}
 use Rattle.reduction.specs.declared.context.Context.TheVariants.{Under, Left, Right}
 use Rattle.reduction.specs.Searching as searching
-use Rattle.reduction.specs.declared.division.Division.{Division}
+use Rattle.reduction.specs.declared.partition.Partition.{Partition}
 use Rattle.reduction.specs.Searching.{Listing}
-use Rattle.reduction.specs.Dividing.{IsContext, stepped, Parts, Coarse, Classed, Alone, Lives, Keys, class_key, mark_key, LevelAt, Level, Split, Fewer, Even, EvenUnder, EvenBoth, EvenBeside, AllEven, Resting, Whole}
-use Rattle.reduction.specs.Divisions.{Sorted, Finer, RestsAt}
+use Rattle.reduction.specs.Dividing.{IsContext, stepped, Parts, Coarse, Classed, Alone, Lives, Sorted, Keys, class_key, mark_key, LevelAt, Level, Split, Fewer, Even, EvenUnder, EvenBoth, EvenBeside, AllEven, Resting, Whole}
+use Rattle.reduction.specs.Divisions.{Finer}
 use Rattle.reduction.proofs.Bounds.{reached_below, list_reached}
 use Rattle.reduction.proofs.Searching.{true_false}
 
@@ -28,6 +32,11 @@ pub stepped_list : (m : Meaning) (x : Context) (p : ℕ) → IsContext m x → R
 stepped_list m (Under k) p at h = list_reached m k p 0 (searching.one at h refl)
 stepped_list m (Left k r) p at h = list_reached m k p r (searching.two at.0 h at.1)
 stepped_list m (Right k r) p at h = list_reached m k r p (searching.two at.0 at.1 h)
+
+pub stepped_fits : (w : Ruled) (x : Context) (p : ℕ) → IsContext w.plain x → p < w.plain.states → stepped w.plain x p < w.plain.states
+stepped_fits w (Under k) p at h = w.complete k p 0 (one at h refl)
+stepped_fits w (Left k r) p at h = w.complete k p r (two at.0 h (reached_below w r at.1))
+stepped_fits w (Right k r) p at h = w.complete k r p (two at.0 (reached_below w r at.1) h)
 
 -- What no surrounding tells apart leads to what no surrounding tells apart.
 pub stepped_same : (m : Meaning) (x : Context) (p q : ℕ) → IsContext m x → Same m.kinds m p q → Same m.kinds m (stepped m x p) (stepped m x q)
@@ -100,12 +109,12 @@ fewer_lives m class live after lives fewer = record {
       where
         alone : ((q : ℕ) → Contains live q → get_or class q 0 ≡ get_or class p 0 → q ≡ p)
             → (q : ℕ) → Reached m.kinds m q → get_or class q 0 ≡ get_or class p 0 → Contains live q ⊎ Alone m class q → q ≡ p
-        alone one q hq f (inr x) = sym (x p (All-contains (Reached m.kinds m) live p lives.reached h) (sym f))
-        alone one q hq f (inl x) = one q x f
+        alone lone q hq f (inr x) = sym (x p (All-contains (Reached m.kinds m) live p lives.reached h) (sym f))
+        alone lone q hq f (inl x) = lone q x f
 
         gone : Contains after p ⊎ ((q : ℕ) → Contains live q → get_or class q 0 ≡ get_or class p 0 → q ≡ p) → Contains after p ⊎ Alone m class p
         gone (inl x) = inl x
-        gone (inr one) = inr (λ q hq f. alone one q hq f (lives.others q hq))
+        gone (inr lone) = inr (λ q hq f. alone lone q hq f (lives.others q hq))
 
 -- Where the live states have the keys of their leaders, members of a class have equal keys.
 pub level_keys : (m : Meaning) (class leader live key : List ℕ) → Lives m class live → Level live key class leader
@@ -153,6 +162,19 @@ module _ (m : Meaning) (class leader live : List ℕ) (s : ℕ) (lives : Lives m
       (λ p q hp hq e. sym (mark_told (m.mark p)) ∙ (ap (λ z. eqb z 1)
       (level_equal m (mark_key m) class' leader' live key marks_lives level keys p q hp hq e) ∙ mark_told (m.mark q)))
 
+-- What follows from a division that is known to be sound.
+pub known_below : {A : Type 0} {x y : ℕ} → ∥ A ∥₁ → (A → x < y) → x < y
+known_below h f = ∥∥₁_elim h le_prop f
+
+pub known_equal : {A : Type 0} {x y : ℕ} → ∥ A ∥₁ → (A → x ≡ y) → x ≡ y
+known_equal h f = ∥∥₁_elim h (ℕ_set _ _) f
+
+pub live_below : (w : Ruled) (class leader live : List ℕ) → ∥ Sorted w.plain class leader live ∥₁ → All (λ s. s < w.plain.states) live
+live_below w class leader live sorted k d h = known_below sorted (λ z. reached_below w (get_or live k d) (z.lives.reached k d h))
+
+pub live_small : (w : Ruled) (class leader live : List ℕ) → ∥ Sorted w.plain class leader live ∥₁ → All (λ s. s < 1089) live
+live_small w class leader live sorted k d h = omega (arith, live_below w class leader live sorted k d h, w.few)
+
 -- Every member of a class is alone where no state is live.
 pub none_live : (m : Meaning) (class live : List ℕ) → length live ≡ 0 → Lives m class live → AllEven m class
 none_live m class live z lives x at p q hp hq e = go (lives.others p hp)
@@ -177,7 +199,7 @@ module _ (m : Meaning) (class leader : List ℕ) (k : Classed m class leader) (e
       (reached_around m.kinds m s o.2 p hp) (reached_around m.kinds m s o.2 q hq) (around_class p q hp hq e s o.2)
 
   -- Sound classes whose members lead to one class in every context are the classes.
-  pub even_classes : Classes m.kinds m (length leader) (λ p. get_or class p 0)
+  even_classes : Classes m.kinds m (length leader) (λ p. get_or class p 0)
   even_classes = record {
     small = λ p h. k.parts.small p;
     member = λ j h. get_or leader j 0;
@@ -188,6 +210,45 @@ module _ (m : Meaning) (class leader : List ℕ) (k : Classed m class leader) (e
       k.coarse p q hp hq,
     );
   }
+
+-- A listed state stands at a place, or nowhere.
+find_at : (xs : List ℕ) (n p : ℕ) → ((i : ℕ) × (i < n) × (get_or xs i 0 ≡ p)) ⊎ ((i : ℕ) → i < n → ¬ (get_or xs i 0 ≡ p))
+find_at xs zero p = inr (λ i h. absurd (omega arith))
+find_at xs (suc n) p = go (ℕ_discrete (get_or xs n 0) p) (find_at xs n p)
+  where
+    go : Dec (get_or xs n 0 ≡ p) → ((i : ℕ) × (i < n) × (get_or xs i 0 ≡ p)) ⊎ ((i : ℕ) → i < n → ¬ (get_or xs i 0 ≡ p))
+        → ((i : ℕ) × (i < suc n) × (get_or xs i 0 ≡ p)) ⊎ ((i : ℕ) → i < suc n → ¬ (get_or xs i 0 ≡ p))
+    go (yes e) f = inl (n, omega arith, e)
+    go (no e) (inl f) = inl (f.0, omega (arith, f.1), f.2)
+    go (no e) (inr f) = inr (λ i h. last i h (ℕ_discrete i n))
+      where
+        last : (i : ℕ) → i < suc n → Dec (i ≡ n) → ¬ (get_or xs i 0 ≡ p)
+        last i h (yes d) g = e (ap (λ z. get_or xs z 0) (sym d) ∙ g)
+        last i h (no d) g = f i (omega arith) g
+
+listed_reached : (m : Meaning) (list : List ℕ) (p : ℕ) → Listing m list → ∥ Reached m.kinds m p ∥₁ → Reached m.kinds m p
+listed_reached m list p listing known = go (find_at list (length list) p)
+  where
+    go : ((i : ℕ) × (i < length list) × (get_or list i 0 ≡ p)) ⊎ ((i : ℕ) → i < length list → ¬ (get_or list i 0 ≡ p)) → Reached m.kinds m p
+    go (inl f) = subst (Reached m.kinds m) f.2 (listing.reached f.0 f.1)
+    go (inr f) = absurd (∥∥₁_elim known (λ x y. absurd x) (λ r. let v = listing.all p r in f v.0 v.1 v.2))
+
+-- A division that is known to be sound, and even in every context, is that into classes.
+pub known_classes : (m : Meaning) (list class leader live : List ℕ) → Listing m list → Parts class leader → ∥ Sorted m class leader live ∥₁ → AllEven m class
+    → Classes m.kinds m (length leader) (λ p. get_or class p 0)
+known_classes m list class leader live listing parts sorted even = record {
+  small = λ p h. parts.small p;
+  member = λ j h. get_or leader j 0;
+  reached = λ j h. listed_reached m list (get_or leader j 0) listing (∥∥₁_map sorted (λ z. z.classed.led j 0 h));
+  member_of = parts.own;
+  exact = λ p q hp hq. (
+    (λ e s o. ∥∥₁_elim sorted (Bool-set _ _) (λ z. ((even_classes m class leader z.classed even).exact p q hp hq).0 e s o)),
+    (λ e. known_equal sorted (λ z. ((even_classes m class leader z.classed even).exact p q hp hq).1 e)),
+  );
+}
+
+pub known_none : (m : Meaning) (class leader live : List ℕ) → length live ≡ 0 → ∥ Sorted m class leader live ∥₁ → AllEven m class
+known_none m class leader live z sorted x at p q hp hq e = known_equal sorted (λ y. none_live m class live z y.lives x at p q hp hq e)
 
 -- Where every brother rests, every context does: a brother on the left acts as the leader of its class does.
 pub rest_all : (w : Ruled) (order class leader : List ℕ) → Listing w.plain order → Classed w.plain class leader
@@ -212,6 +273,12 @@ rest_all w order class leader list sound unders besides = all
         (beside p hp k (few k 2 at.0) at.0).0 r l at.1 hl (sym own)
         ∙ ((beside l hl k (few k 2 at.0) at.0).1 lead p q hp hq e
         ∙ sym ((beside q hq k (few k 2 at.0) at.0).0 r l at.1 hl (sym own)))
+
+-- Where every brother rests in a division that is known to be sound, every context does.
+pub known_rest : (w : Ruled) (order class leader live : List ℕ) → Listing w.plain order → ∥ Sorted w.plain class leader live ∥₁
+    → EvenUnder w.plain class 16 → ((j : ℕ) → j < length order → EvenBeside w.plain class leader 16 (get_or order j 0)) → AllEven w.plain class
+known_rest w order class leader live listing sorted unders besides x at p q hp hq e =
+    known_equal sorted (λ z. rest_all w order class leader listing z.classed unders besides x at p q hp hq e)
 
 -- The place after `next` in the circle of n.
 next_in : (next n : ℕ) → next < n → ((next + 1 ≡ n) × ((next + 1) % n ≡ 0)) ⊎ ((next + 1 < n) × ((next + 1) % n ≡ next + 1))
@@ -247,36 +314,51 @@ resting_all m order n class leader quiet next h g rests j l = go (dec_lt j next)
     go (no d) = rests j l (inr (omega arith, omega arith))
 
 -- Steps that divide, one after the other.
-pub finer_none : (m : Meaning) (d : Division) (P : List ℕ → List ℕ → Type 0) → Sorted m d → P d.partition.class d.partition.leader.items → Finer m d d P
-finer_none m d P s h = record { sorted = s; more = omega arith; still = λ e. (refl, refl); holds = λ e. h }
+pub finer_none : (p : Partition) (P : List ℕ → List ℕ → Type 0) → P p.class p.leader.items → Finer p p P
+finer_none p P h = record { more = omega arith; still = λ e. (refl, refl); holds = λ e. h }
 
-pub finer_as : (m : Meaning) (d e : Division) (P Q : List ℕ → List ℕ → Type 0) → (P e.partition.class e.partition.leader.items → Q e.partition.class e.partition.leader.items)
-    → Finer m d e P → Finer m d e Q
-finer_as m d e P Q to f = record { sorted = f.sorted; more = f.more; still = f.still; holds = λ z. to (f.holds z) }
+pub finer_as : (p q : Partition) (P Q : List ℕ → List ℕ → Type 0) → (P q.class q.leader.items → Q q.class q.leader.items) → Finer p q P → Finer p q Q
+finer_as p q P Q to f = record { more = f.more; still = f.still; holds = λ z. to (f.holds z) }
 
-pub finer_on : (m : Meaning) (d e f : Division) (P Q R : List ℕ → List ℕ → Type 0)
-    → (P f.partition.class f.partition.leader.items → Q f.partition.class f.partition.leader.items → R f.partition.class f.partition.leader.items)
-    → Finer m d e P → Finer m e f Q → Finer m d f R
-finer_on m d e f P Q R to p q = record {
-  sorted = q.sorted;
-  more = omega (arith, p.more, q.more);
-  still = λ z. let x = q.still (late z) in let y = p.still (soon z) in (x.0 ∙ y.0, x.1 ∙ y.1);
-  holds = λ z. let x = q.still (late z) in
-      to (subst (λ l. P f.partition.class l) (sym x.1) (subst (λ k. P k e.partition.leader.items) (sym x.0) (p.holds (soon z)))) (q.holds (late z));
+pub finer_on : (p q r : Partition) (P Q S : List ℕ → List ℕ → Type 0) → (P r.class r.leader.items → Q r.class r.leader.items → S r.class r.leader.items)
+    → Finer p q P → Finer q r Q → Finer p r S
+finer_on p q r P Q S to x y = record {
+  more = omega (arith, x.more, y.more);
+  still = λ z. let v = y.still (late z) in let u = x.still (soon z) in (v.0 ∙ u.0, v.1 ∙ u.1);
+  holds = λ z. let v = y.still (late z) in
+      to (subst (λ l. P r.class l) (sym v.1) (subst (λ k. P k q.leader.items) (sym v.0) (x.holds (soon z)))) (y.holds (late z));
 }
   where
-    soon : length f.partition.leader.items ≡ length d.partition.leader.items → length e.partition.leader.items ≡ length d.partition.leader.items
-    soon z = omega (arith, p.more, q.more)
+    soon : length r.leader.items ≡ length p.leader.items → length q.leader.items ≡ length p.leader.items
+    soon z = omega (arith, x.more, y.more)
 
-    late : length f.partition.leader.items ≡ length d.partition.leader.items → length f.partition.leader.items ≡ length e.partition.leader.items
-    late z = omega (arith, p.more, q.more)
+    late : length r.leader.items ≡ length p.leader.items → length r.leader.items ≡ length q.leader.items
+    late z = omega (arith, x.more, y.more)
+
+-- What a sweep leaves: sound classes, which are even where nothing was divided.
+module _ (m : Meaning) (x : Context) (class leader live key class' leader' : List ℕ) (at : IsContext m x)
+    (keys : Keys (class_key m class x) live key) (split : Split live key class leader class' leader') where
+  equal_keys : Sorted m class leader live → (p q : ℕ) → Contains live p → Contains live q → Same m.kinds m p q → get_or key p 0 ≡ get_or key q 0
+  equal_keys z = keys_same m (class_key m class x) class live key z.lives (class_key_same m class x z.classed.coarse at) keys
+
+  swept_lives : Sorted m class leader live → Lives m class' live
+  swept_lives z = split_lives m class leader live key class' leader' z.lives z.classed.led z.classed.coarse (equal_keys z) split
+
+  pub swept : Parts class' leader' → (after : List ℕ) → Fewer live class' after → Sorted m class leader live → Sorted m class' leader' after
+  swept parts after fewer z = record {
+    classed = split_classed m class leader live key class' leader' z.lives z.classed.led z.classed.coarse (equal_keys z) split parts
+        (λ p q hp hq e. z.classed.marks p q hp hq (split.finer p q e));
+    lives = fewer_lives m class' live after (swept_lives z) fewer;
+  }
+
+  pub swept_even : class' ≡ class → Level live key class' leader' → ∥ Sorted m class leader live ∥₁ → Even m class' x
+  swept_even same level sorted p q hp hq e = known_equal sorted
+      (λ z. subst (λ k. get_or k (stepped m x p) 0 ≡ get_or k (stepped m x q) 0) (sym same)
+      (level_equal m (class_key m class x) class' leader' live key (swept_lives z) level keys p q hp hq e))
 
 -- A brother that does not lead its class has one side only.
 pub both_one : (m : Meaning) (class leader : List ℕ) (k r : ℕ) → false ≡ eqb (get_or leader (get_or class r 0) 0) r → Even m class (Left k r) → EvenBoth m class leader k r
 both_one m class leader k r e h = (h, λ f. absurd (true_false _ (eq-eqb _ _ f) (sym e)))
-
-pub rests_at : (m : Meaning) (d e : Division) (r s : ℕ) → r ≡ s → RestsAt m d e r → RestsAt m d e s
-rests_at m d e r s f = subst (RestsAt m d e) f
 
 -- Nothing was divided, so what rested rests still.
 pub resting_as : (m : Meaning) (order : List ℕ) (n : ℕ) (class leader class' leader' : List ℕ) (quiet next : ℕ) → class' ≡ class → leader' ≡ leader

@@ -50,6 +50,11 @@ pub record Lives (m : Meaning) (class live : List ℕ) : Type 0 where
   pub reached : All (Reached m.kinds m) live
   pub others : (p : ℕ) → Reached m.kinds m p → Contains live p ⊎ Alone m class p
 
+-- A division is sound.
+pub record Sorted (m : Meaning) (class leader live : List ℕ) : Type 0 where
+  pub classed : Classed m class leader
+  pub lives : Lives m class live
+
 -- Each live state has the key that f gives it.
 abbrev pub Keys : (ℕ → ℕ) → List ℕ → List ℕ → Type 0
 Keys f live key = All (λ p. slice_index key p ≡ f p) live

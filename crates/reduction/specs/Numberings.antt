@@ -1,5 +1,5 @@
 -- The same of values of Partition and Numbering.
-use Rattle.std.specs.Prelude.{ℕ, ◌<◌, ◌≤◌, length, Option, slice_index}
+use Rattle.std.specs.Prelude.{ℕ, ◌≤◌, length, Option, slice_index}
 use Rattle.ruling.specs.declared.ruling.Ruling.{Ghosts}
 use Rattle.ruling.specs.Meanings.{Meaning, Fits}
 use Rattle.ruling.specs.Classes.{Classes}

@@ -1,6 +1,5 @@
 ghost use Rattle.std.specs.Prelude.{◌≡◌, ◌<◌};
 ghost use Rattle.reduction.specs.Dividing.{mark_key, Whole};
-ghost use Rattle.reduction.specs.Divisions.{Sorted};
 ghost use Rattle.reduction.specs.Searching.{Listing};
 
 use super::division::Division;
@@ -26,11 +25,11 @@ impl Partition {
     }
 }
 
-impl Division {
+impl<'a, R: Ruling> Division<'a, R> {
     // The listed states, divided by their marks.
-    pub(super) fn by_marks<R: Ruling>(ruling: &R, list: &[u16]) -> Division
+    pub(super) fn by_marks(ruling: &'a R, list: &[u16]) -> Self
         requires { Listing (R.Ruling.meaning ruling.now).plain list.now }
-        ensures { Sorted (R.Ruling.meaning ruling.now).plain result }
+        ensures { result.ruling ≡ ruling.entry }
     {
         let keys = keys_of(
             list,
@@ -42,6 +41,10 @@ impl Division {
         let mut partition = Partition::whole(list[0]);
         partition.split(list, &keys);
         let live = still_live(list, &partition);
-        Division { partition, live }
+        Division {
+            ruling,
+            partition,
+            live,
+        }
     }
 }

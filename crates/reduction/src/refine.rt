@@ -3,7 +3,7 @@ ghost use Rattle.ruling.specs.Trees.{Kind};
 ghost use Rattle.ruling.specs.Classes.{Reached, Classes};
 ghost use Rattle.reduction.specs.declared.context.Context.TheVariants.{Under};
 ghost use Rattle.reduction.specs.Dividing.{Even, EvenUnder, EvenBoth, EvenBeside, AllEven};
-ghost use Rattle.reduction.specs.Divisions.{Sorted, Finer, RestsAt};
+ghost use Rattle.reduction.specs.Divisions.{Finer, RestsAt};
 ghost use Rattle.reduction.specs.Searching.{Listing};
 
 use super::context::Context;
@@ -11,35 +11,35 @@ use super::division::Division;
 use super::partition::Partition;
 use ruling::Ruling;
 
-impl Division {
+impl<'a, R: Ruling> Division<'a, R> {
     // Sweeps below a sign of this kind, if it is one.
-    fn under_kind<R: Ruling>(&mut self, ruling: &R, kind: u8)
-        requires { Sorted (R.Ruling.meaning ruling.now).plain self.old }
-        ensures { Finer (R.Ruling.meaning ruling.now).plain self.old self.new (λ class leader. (Kind (R.Ruling.meaning ruling.now).plain.kinds kind 1 → Even (R.Ruling.meaning ruling.now).plain class (Under kind))) }
+    fn under_kind(&mut self, kind: u8)
+        ensures same { self.new.ruling ≡ self.old.ruling }
+        ensures finer { Finer self.old.partition self.new.partition (λ class leader. (Kind (R.Ruling.meaning self.old.ruling.now).plain.kinds kind 1 → Even (R.Ruling.meaning self.old.ruling.now).plain class (Under kind))) }
     {
-        if let Some(1) = ruling.rank(kind) {
-            self.sweep(ruling, Context::Under { kind });
+        if let Some(1) = self.ruling.rank(kind) {
+            self.sweep(Context::Under { kind });
         }
     }
 
-    fn under_each<R: Ruling>(&mut self, ruling: &R)
-        requires { Sorted (R.Ruling.meaning ruling.now).plain self.old }
-        ensures { Finer (R.Ruling.meaning ruling.now).plain self.old self.new (λ class leader. EvenUnder (R.Ruling.meaning ruling.now).plain class 16) }
+    fn under_each(&mut self)
+        ensures same { self.new.ruling ≡ self.old.ruling }
+        ensures finer { Finer self.old.partition self.new.partition (λ class leader. EvenUnder (R.Ruling.meaning self.old.ruling.now).plain class 16) }
     {
         for kind in 0..16u8 {
-            self.under_kind(ruling, kind);
+            self.under_kind(kind);
         }
     }
 
     // Sweeps below the signs until they divide nothing more.
-    fn under_all<R: Ruling>(&mut self, ruling: &R)
-        requires { Sorted (R.Ruling.meaning ruling.now).plain self.old }
-        ensures finer { Finer (R.Ruling.meaning ruling.now).plain self.old self.new (λ class leader. Unit {0}) }
-        ensures even { EvenUnder (R.Ruling.meaning ruling.now).plain self.new.partition.class 16 }
+    fn under_all(&mut self)
+        ensures same { self.new.ruling ≡ self.old.ruling }
+        ensures finer { Finer self.old.partition self.new.partition (λ class leader. Unit {0}) }
+        ensures even { EvenUnder (R.Ruling.meaning self.old.ruling.now).plain self.new.partition.class 16 }
     {
         loop {
             let before = self.partition.count();
-            self.under_each(ruling);
+            self.under_each();
             if self.partition.count() == before {
                 return;
             }
@@ -56,83 +56,81 @@ impl Division {
 
     // Sweeps below a join of this kind, with the brother as the right child; then, if nothing was divided and the brother
     // leads its class, with it as the left one.
-    fn beside_join<R: Ruling>(&mut self, ruling: &R, kind: u8, brother: u16)
-        requires sorted { Sorted (R.Ruling.meaning ruling.now).plain self.old }
-        requires kind { Kind (R.Ruling.meaning ruling.now).plain.kinds kind 2 }
-        requires brother { Reached (R.Ruling.meaning ruling.now).plain.kinds (R.Ruling.meaning ruling.now).plain brother }
-        ensures { Finer (R.Ruling.meaning ruling.now).plain self.old self.new (λ class leader. EvenBoth (R.Ruling.meaning ruling.now).plain class leader kind brother) }
+    fn beside_join(&mut self, kind: u8, brother: u16)
+        requires kind { Kind (R.Ruling.meaning self.old.ruling.now).plain.kinds kind 2 }
+        requires brother { Reached (R.Ruling.meaning self.old.ruling.now).plain.kinds (R.Ruling.meaning self.old.ruling.now).plain brother }
+        ensures same { self.new.ruling ≡ self.old.ruling }
+        ensures finer { Finer self.old.partition self.new.partition (λ class leader. EvenBoth (R.Ruling.meaning self.old.ruling.now).plain class leader kind brother) }
     {
         let before = self.partition.count();
-        self.sweep(ruling, Context::Left { kind, brother });
+        self.sweep(Context::Left { kind, brother });
         if self.partition.count() != before {
             return;
         }
         if self.leads(brother) {
-            self.sweep(ruling, Context::Right { kind, brother });
+            self.sweep(Context::Right { kind, brother });
         }
     }
 
-    fn beside_kind<R: Ruling>(&mut self, ruling: &R, kind: u8, brother: u16)
-        requires sorted { Sorted (R.Ruling.meaning ruling.now).plain self.old }
-        requires brother { Reached (R.Ruling.meaning ruling.now).plain.kinds (R.Ruling.meaning ruling.now).plain brother }
-        ensures { Finer (R.Ruling.meaning ruling.now).plain self.old self.new (λ class leader. (Kind (R.Ruling.meaning ruling.now).plain.kinds kind 2 → EvenBoth (R.Ruling.meaning ruling.now).plain class leader kind brother)) }
+    fn beside_kind(&mut self, kind: u8, brother: u16)
+        requires { Reached (R.Ruling.meaning self.old.ruling.now).plain.kinds (R.Ruling.meaning self.old.ruling.now).plain brother }
+        ensures same { self.new.ruling ≡ self.old.ruling }
+        ensures finer { Finer self.old.partition self.new.partition (λ class leader. (Kind (R.Ruling.meaning self.old.ruling.now).plain.kinds kind 2 → EvenBoth (R.Ruling.meaning self.old.ruling.now).plain class leader kind brother)) }
     {
-        if let Some(2) = ruling.rank(kind) {
-            self.beside_join(ruling, kind, brother);
+        if let Some(2) = self.ruling.rank(kind) {
+            self.beside_join(kind, brother);
         }
     }
 
     // Sweeps beside a brother below the joins, up to the first division.
-    fn beside<R: Ruling>(&mut self, ruling: &R, brother: u16)
-        requires sorted { Sorted (R.Ruling.meaning ruling.now).plain self.old }
-        requires brother { Reached (R.Ruling.meaning ruling.now).plain.kinds (R.Ruling.meaning ruling.now).plain brother }
-        ensures { Finer (R.Ruling.meaning ruling.now).plain self.old self.new (λ class leader. EvenBeside (R.Ruling.meaning ruling.now).plain class leader 16 brother) }
+    fn beside(&mut self, brother: u16)
+        requires { Reached (R.Ruling.meaning self.old.ruling.now).plain.kinds (R.Ruling.meaning self.old.ruling.now).plain brother }
+        ensures same { self.new.ruling ≡ self.old.ruling }
+        ensures finer { Finer self.old.partition self.new.partition (λ class leader. EvenBeside (R.Ruling.meaning self.old.ruling.now).plain class leader 16 brother) }
     {
         let before = self.partition.count();
         for kind in 0..16u8 {
             if self.partition.count() != before {
                 return;
             }
-            self.beside_kind(ruling, kind, brother);
+            self.beside_kind(kind, brother);
         }
     }
 
     // Sweeps beside the brother at a place of the list, and below the signs again if that divided anything; answers whether it did.
-    fn meet_brother<R: Ruling>(&mut self, ruling: &R, list: &[u16], place: usize) -> bool
-        requires sorted { Sorted (R.Ruling.meaning ruling.now).plain self.old }
-        requires listed { Listing (R.Ruling.meaning ruling.now).plain list.now }
+    fn meet_brother(&mut self, list: &[u16], place: usize) -> bool
+        requires listed { Listing (R.Ruling.meaning self.old.ruling.now).plain list.now }
         requires place { place < length list.now }
-        requires even { EvenUnder (R.Ruling.meaning ruling.now).plain self.old.partition.class 16 }
-        ensures sorted { Sorted (R.Ruling.meaning ruling.now).plain self.new }
-        ensures even { EvenUnder (R.Ruling.meaning ruling.now).plain self.new.partition.class 16 }
+        requires even { EvenUnder (R.Ruling.meaning self.old.ruling.now).plain self.old.partition.class 16 }
+        ensures same { self.new.ruling ≡ self.old.ruling }
+        ensures even { EvenUnder (R.Ruling.meaning self.old.ruling.now).plain self.new.partition.class 16 }
         ensures more { result ≡ true → length self.old.partition.leader.items < length self.new.partition.leader.items }
-        ensures rest { result ≡ false → RestsAt (R.Ruling.meaning ruling.now).plain self.old self.new (slice_index list.now place) }
+        ensures rest { result ≡ false → RestsAt (R.Ruling.meaning self.old.ruling.now).plain self.old.partition self.new.partition (slice_index list.now place) }
     {
         let before = self.partition.count();
-        self.beside(ruling, list[place]);
+        self.beside(list[place]);
         if self.partition.count() == before {
             return false;
         }
-        self.under_all(ruling);
+        self.under_all();
         true
     }
 
     // Meets the brothers one after the other, in a circle, until a whole round of them has divided nothing, or no state is live.
     // Where all marks are equal there is one class at once.
-    fn settle<R: Ruling>(&mut self, ruling: &R, list: &[u16])
-        requires sorted { Sorted (R.Ruling.meaning ruling.now).plain self.old }
-        requires listed { Listing (R.Ruling.meaning ruling.now).plain list.now }
-        ensures sorted { Sorted (R.Ruling.meaning ruling.now).plain self.new }
-        ensures even { AllEven (R.Ruling.meaning ruling.now).plain self.new.partition.class }
+    fn settle(&mut self, list: &[u16])
+        requires { Listing (R.Ruling.meaning self.old.ruling.now).plain list.now }
+        ensures same { self.new.ruling ≡ self.old.ruling }
+        ensures even { AllEven (R.Ruling.meaning self.old.ruling.now).plain self.new.partition.class }
     {
         if self.partition.count() == 1 {
             return;
         }
-        self.under_all(ruling);
+        self.under_all();
         let mut quiet = 0;
         let mut next = 0;
         while !self.live.is_empty() && quiet < list.len() {
-            let divided = self.meet_brother(ruling, list, next);
+            let divided = self.meet_brother(list, next);
             quiet = quiet_after(divided, quiet);
             next = (next + 1) % list.len();
         }
@@ -153,6 +151,6 @@ pub(super) fn classes<R: Ruling>(ruling: &R, list: &[u16]) -> Partition
     ensures { Classes (R.Ruling.meaning ruling.now).plain.kinds (R.Ruling.meaning ruling.now).plain (length result.leader.items) (λ s. slice_index result.class s) }
 {
     let mut division = Division::by_marks(ruling, list);
-    division.settle(ruling, list);
+    division.settle(list);
     division.partition
 }

@@ -31,12 +31,14 @@ still_live-live-requires-clause-small g c =
     let w = g.R.Ruling.meaning c.args.ruling.now in
     all_small w c.args.list.now (all_live w.plain c.args.list.now c.args.list.now c.requires).reached
 
-pub returns : goal.returns
-returns g c =
+pub invariant_of-result : goal.invariant_of-result
+invariant_of-result g c =
     let w = g.R.Ruling.meaning c.args.ruling.now in
     let all = all_live w.plain c.whole-partition.result.class c.args.list.now c.requires in
     let hit = c.requires.reached 0 c.requires.some in
     record {
-      classed = marks_classed w.plain _ _ _ _ all hit c.whole-partition.ensures _ _ _ c.keys_of-keys.ensures c.split.ensures.split c.split.new.self.parts c.split.ensures.level;
-      lives = fewer_lives w.plain _ _ _ (marks_lives w.plain _ _ _ _ all hit c.whole-partition.ensures _ _ _ c.keys_of-keys.ensures c.split.ensures.split) c.still_live-live.ensures;
+      sorted = ∣ record {
+        classed = marks_classed w.plain _ _ _ _ all hit c.whole-partition.ensures _ _ _ c.keys_of-keys.ensures c.split.ensures.split c.split.new.self.parts c.split.ensures.level;
+        lives = fewer_lives w.plain _ _ _ (marks_lives w.plain _ _ _ _ all hit c.whole-partition.ensures _ _ _ c.keys_of-keys.ensures c.split.ensures.split) c.still_live-live.ensures;
+      } ∣₁;
     }

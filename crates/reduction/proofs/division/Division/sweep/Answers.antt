@@ -1,30 +1,38 @@
-use Rattle.std.proofs.Common.{◌<◌, All, sym, subst, arith}
-use Rattle.reduction.specs.Dividing.{Split, Fewer, class_key}
-use Rattle.reduction.proofs.Dividing.{all_small, keys_same, class_key_same, split_classed, split_lives, fewer_lives}
+use Rattle.std.proofs.Common.{◌<◌, All, sym, subst}
+use mathlib.Core.Logic.{∥∥₁_map}
+use Rattle.reduction.specs.Dividing.{Fewer, Split, Level}
+use Rattle.reduction.proofs.Dividing.{live_small, swept, swept_even}
 use Rattle.reduction.proofs.division.Division.sweep.Goals as goal
 
 pub split-requires : goal.split-requires
-split-requires g c = subst (All (λ s. s < 1089)) (sym c.deref.ensures.0) (all_small (g.R.Ruling.meaning c.args.ruling.now) _ c.requires.sorted.lives.reached)
+split-requires g c = subst (All (λ s. s < 1089)) (sym c.deref.ensures.0) (live_small (g.R.Ruling.meaning c.args.self.now.ruling.now) _ _ _ c.args.self.now.sorted)
 
 pub still_live-self-requires-clause-small : goal.still_live-self-requires-clause-small
-still_live-self-requires-clause-small g c =
-    subst (All (λ s. s < 1089)) (sym c.deref-then-count-before.ensures.0) (all_small (g.R.Ruling.meaning c.args.ruling.now) _ c.requires.sorted.lives.reached)
+still_live-self-requires-clause-small g c = subst (All (λ s. s < 1089)) (sym c.deref-then-count-before.ensures.0)
+    (live_small (g.R.Ruling.meaning c.args.self.now.ruling.now) _ _ _ c.args.self.now.sorted)
 
-pub returns-then-count-before : goal.returns-then-count-before
-returns-then-count-before g c =
-    let m = (g.R.Ruling.meaning c.args.ruling.now).plain in
-    let old = c.requires.sorted in
-    let keys = keys_same m (class_key m c.args.self.now.partition.class c.args.context) _ _ _ old.lives
-    (class_key_same m _ _ old.classed.coarse c.requires.context) c.classes_ahead-key.ensures in
-    let split = subst (λ xs. Split xs c.classes_ahead-key.result c.args.self.now.partition.class c.args.self.now.partition.leader.items c.split.new.self.class c.split.new.self.leader.items) c.deref.ensures.0 c.split.ensures.split in
+pub invariant_of-self-then-count-before : goal.invariant_of-self-then-count-before
+invariant_of-self-then-count-before g c =
+    let key = c.classes_ahead-key.result in
+    let class = c.args.self.now.partition.class in
+    let leader = c.args.self.now.partition.leader.items in
+    let after = c.split.new.self in
     record {
-      sorted = record {
-        classed = split_classed m _ _ _ _ _ _ old.lives old.classed.led old.classed.coarse keys split c.split.new.self.parts
-            (λ p q hp hq e. old.classed.marks p q hp hq (split.finer p q e));
-        lives = fewer_lives m _ _ _ (split_lives m _ _ _ _ _ _ old.lives old.classed.led old.classed.coarse keys split)
-            (subst (λ xs. Fewer xs c.split.new.self.class c.still_live-self.result.items) c.deref-then-count-before.ensures.0 c.still_live-self.ensures);
-      };
-      more = split.more;
-      still = λ e. absurd (omega arith);
-      holds = λ e. absurd (omega arith);
+      sorted = ∥∥₁_map c.args.self.now.sorted (swept (g.R.Ruling.meaning c.args.self.now.ruling.now).plain c.args.context class leader _ key _ _ c.requires c.classes_ahead-key.ensures
+          (subst (λ xs. Split xs key class leader after.class after.leader.items) c.deref.ensures.0 c.split.ensures.split) after.parts _
+          (subst (λ xs. Fewer xs after.class c.still_live-self.result.items) c.deref-then-count-before.ensures.0 c.still_live-self.ensures));
+    }
+
+pub returns-else-count-before-clause-finer : goal.returns-else-count-before-clause-finer
+returns-else-count-before-clause-finer g c =
+    let key = c.classes_ahead-key.result in
+    let class = c.args.self.now.partition.class in
+    let leader = c.args.self.now.partition.leader.items in
+    let after = c.split.new.self in
+    record {
+      more = c.split.ensures.split.more;
+      still = c.split.ensures.still;
+      holds = λ e. swept_even (g.R.Ruling.meaning c.args.self.now.ruling.now).plain c.args.context class leader _ key _ _ c.requires c.classes_ahead-key.ensures
+          (subst (λ xs. Split xs key class leader after.class after.leader.items) c.deref.ensures.0 c.split.ensures.split) (c.split.ensures.still e).0
+          (subst (λ xs. Level xs key after.class after.leader.items) c.deref.ensures.0 c.split.ensures.level) c.args.self.now.sorted;
     }
