@@ -1,11 +1,9 @@
-use super::live::Live;
 use super::partition::Partition;
+use arrayvec::ArrayVec;
 
-// Classes that are being divided, the live states, and the room for a sweep.
+// Classes that are being divided, and the live states: every reached state that is not known to be alone in its class.
 #[derive(Drop)]
 pub struct Division {
     pub(super) partition: Partition,
-    pub(super) live: Live,
-    pub(super) key: [u16; 1089],
-    pub(super) shared: [bool; 1089],
+    pub(super) live: ArrayVec<u16, 1089>,
 }

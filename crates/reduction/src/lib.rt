@@ -6,7 +6,7 @@ mod begin;
 mod division;
 mod fill;
 mod found;
-mod live;
+mod keys;
 mod number;
 mod numbering;
 mod partition;

@@ -1,4 +1,4 @@
-ghost use Rattle.std.specs.Prelude.{◌≡◌, ℕ, ◌+◌, ◌<◌, true, false, if◌then◌else◌, ◌==◌, nat_eq, slice_index};
+ghost use Rattle.std.specs.Prelude.{◌≡◌, ◌<◌, true, false, ◌==◌, length, slice_index};
 ghost use Rattle.ruling.specs.Trees.{Kind};
 ghost use Rattle.ruling.specs.Classes.{Reached, Classes};
 ghost use Rattle.reduction.specs.declared.place.Place.TheVariants.{Under};
@@ -38,9 +38,9 @@ impl Division {
         ensures even { EvenUnder (R.Ruling.meaning ruling.now).plain self.new.partition.class 16 }
     {
         loop {
-            let before = self.partition.count;
+            let before = self.partition.count();
             self.under_each(ruling);
-            if self.partition.count == before {
+            if self.partition.count() == before {
                 return;
             }
         }
@@ -48,9 +48,8 @@ impl Division {
 
     // Whether a state leads its class.
     fn leads(&self, state: u16) -> bool
-        requires state { state < 1089 }
-        requires classes { (p : ℕ) → slice_index self.now.partition.class p < 1089 }
-        ensures { result ≡ (slice_index self.now.partition.leader (slice_index self.now.partition.class state) == state) }
+        requires { state < 1089 }
+        ensures { result ≡ (slice_index self.now.partition.leader.items (slice_index self.now.partition.class state) == state) }
     {
         self.partition.leader[self.partition.class[state as usize] as usize] == state
     }
@@ -63,9 +62,9 @@ impl Division {
         requires brother { Reached (R.Ruling.meaning ruling.now).plain.kinds (R.Ruling.meaning ruling.now).plain brother }
         ensures { Finer (R.Ruling.meaning ruling.now).plain self.old self.new (λ class leader. EvenBoth (R.Ruling.meaning ruling.now).plain class leader kind brother) }
     {
-        let before = self.partition.count;
+        let before = self.partition.count();
         self.sweep(ruling, kind, Place::Left, brother);
-        if self.partition.count != before {
+        if self.partition.count() != before {
             return;
         }
         if self.leads(brother) {
@@ -89,9 +88,9 @@ impl Division {
         requires brother { Reached (R.Ruling.meaning ruling.now).plain.kinds (R.Ruling.meaning ruling.now).plain brother }
         ensures { Finer (R.Ruling.meaning ruling.now).plain self.old self.new (λ class leader. EvenBeside (R.Ruling.meaning ruling.now).plain class leader 16 brother) }
     {
-        let before = self.partition.count;
+        let before = self.partition.count();
         for kind in 0..16u8 {
-            if self.partition.count != before {
+            if self.partition.count() != before {
                 return;
             }
             self.beside_kind(ruling, kind, brother);
@@ -105,12 +104,12 @@ impl Division {
         requires even { EvenUnder (R.Ruling.meaning ruling.now).plain self.old.partition.class 16 }
         ensures sorted { Sorted (R.Ruling.meaning ruling.now).plain self.new }
         ensures even { EvenUnder (R.Ruling.meaning ruling.now).plain self.new.partition.class 16 }
-        ensures more { result ≡ true → self.old.partition.count < self.new.partition.count }
+        ensures more { result ≡ true → length self.old.partition.leader.items < length self.new.partition.leader.items }
         ensures rest { result ≡ false → RestsAt (R.Ruling.meaning ruling.now).plain self.old self.new brother }
     {
-        let before = self.partition.count;
+        let before = self.partition.count();
         self.beside(ruling, brother);
-        if self.partition.count == before {
+        if self.partition.count() == before {
             return false;
         }
         self.under_all(ruling);
@@ -125,39 +124,24 @@ impl Division {
         ensures sorted { Sorted (R.Ruling.meaning ruling.now).plain self.new }
         ensures even { AllEven (R.Ruling.meaning ruling.now).plain self.new.partition.class }
     {
-        if self.partition.count == 1 {
+        if self.partition.count() == 1 {
             return;
         }
         self.under_all(ruling);
         let mut quiet = 0;
         let mut next = 0;
-        while self.live.count > 0 && quiet < list.len() as u16 {
-            let divided = self.meet_brother(ruling, list[next as usize]);
-            quiet = quiet_after(divided, quiet);
-            next = next_in_circle(next, list.len() as u16);
+        while !self.live.is_empty() && quiet < list.len() {
+            let divided = self.meet_brother(ruling, list[next]);
+            quiet = if divided { 0 } else { quiet + 1 };
+            next = (next + 1) % list.len();
         }
     }
-}
-
-fn quiet_after(divided: bool, quiet: u16) -> u16
-    requires { quiet < 1089 }
-    ensures { result ≡ (if divided then 0 else quiet + 1) }
-{
-    if divided { 0 } else { quiet + 1 }
-}
-
-fn next_in_circle(at: u16, count: u16) -> u16
-    requires { at < 1089 }
-    ensures { result ≡ (if nat_eq (at + 1) count then 0 else at + 1) }
-{
-    if at + 1 == count { 0 } else { at + 1 }
 }
 
 // Divides the listed states into classes: two have one class exactly if no surrounding tells them apart.
 pub(super) fn classes<R: Ruling>(ruling: &R, list: &[u16]) -> Partition
     requires { Listing (R.Ruling.meaning ruling.now).plain list.now }
-    ensures classes { Classes (R.Ruling.meaning ruling.now).plain.kinds (R.Ruling.meaning ruling.now).plain result.count (λ s. slice_index result.class s) }
-    ensures small { (p : ℕ) → slice_index result.class p < result.count }
+    ensures { Classes (R.Ruling.meaning ruling.now).plain.kinds (R.Ruling.meaning ruling.now).plain (length result.leader.items) (λ s. slice_index result.class s) }
 {
     let mut division = Division::by_marks(ruling, list);
     division.settle(ruling, list);

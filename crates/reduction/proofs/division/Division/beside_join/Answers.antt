@@ -1,13 +1,10 @@
 use Rattle.std.proofs.Common.{sym, refl, ◌∙◌}
 use Rattle.reduction.proofs.Bounds.{place_of}
-use Rattle.reduction.proofs.Dividing.{small_classes, finer_as, finer_on, both_one}
+use Rattle.reduction.proofs.Dividing.{finer_as, finer_on, both_one}
 use Rattle.reduction.proofs.division.Division.beside_join.Goals as goal
 
 pub leads-requires : goal.leads-requires
-leads-requires g c = record {
-  state = place_of (g.R.Ruling.meaning c.args.ruling.now) _ _ refl c.requires.brother;
-  classes = small_classes (g.R.Ruling.meaning c.args.ruling.now) _ _ _ c.sweep.ensures.sorted.classed;
-}
+leads-requires g c = place_of (g.R.Ruling.meaning c.args.ruling.now) _ _ refl c.requires.brother
 
 pub returns-then-leads : goal.returns-then-leads
 returns-then-leads g c = finer_on _ _ _ _ _ _ _ (λ p q. (p, λ e. q)) c.sweep.ensures c.sweep-then-leads.ensures

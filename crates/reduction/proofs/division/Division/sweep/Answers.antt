@@ -1,36 +1,30 @@
-use Rattle.std.proofs.Common.{◌∙◌, arith}
-use Rattle.reduction.specs.Dividing.{class_key}
-use Rattle.reduction.proofs.Dividing.{room_of, keys_same, class_key_same, split_classed, split_lives, fewer_lives}
-use Rattle.reduction.proofs.Splitting.{room_on}
+use Rattle.std.proofs.Common.{◌<◌, All, sym, subst, arith}
+use Rattle.reduction.specs.Dividing.{Split, Fewer, class_key}
+use Rattle.reduction.proofs.Dividing.{all_small, keys_same, class_key_same, split_classed, split_lives, fewer_lives}
 use Rattle.reduction.proofs.division.Division.sweep.Goals as goal
 
 pub split-requires : goal.split-requires
-split-requires g c = record {
-  room = room_of (g.R.Ruling.meaning c.args.ruling.now) _ _ _ _ _ c.requires.sorted.lives c.requires.sorted.classed.led;
-  parts = c.requires.sorted.classed.parts;
-  key = c.read_keys.auto.key ∙ omega arith;
-}
+split-requires g c = subst (All (λ s. s < 1089)) (sym c.deref.ensures.0) (all_small (g.R.Ruling.meaning c.args.ruling.now) _ c.requires.sorted.lives.reached)
 
-pub refresh-requires : goal.refresh-requires
-refresh-requires g c = record {
-  room = room_on _ _ _ _ _ _ _ _ _ (room_of (g.R.Ruling.meaning c.args.ruling.now) _ _ _ _ _ c.requires.sorted.lives c.requires.sorted.classed.led) c.split.ensures.split;
-  parts = c.split.ensures.split.parts;
-  shared = omega arith;
-}
+pub still_live-self-requires-clause-small : goal.still_live-self-requires-clause-small
+still_live-self-requires-clause-small g c =
+    subst (All (λ s. s < 1089)) (sym c.deref-then-count-before.ensures.0) (all_small (g.R.Ruling.meaning c.args.ruling.now) _ c.requires.sorted.lives.reached)
 
-pub returns-then-self-before : goal.returns-then-self-before
-returns-then-self-before g c =
+pub returns-then-count-before : goal.returns-then-count-before
+returns-then-count-before g c =
     let m = (g.R.Ruling.meaning c.args.ruling.now).plain in
     let old = c.requires.sorted in
-    let keys = keys_same m (class_key m c.args.self.now.partition.class c.args.kind c.args.place c.args.brother) _ _ _ _ old.lives
-    (class_key_same m _ _ _ _ old.classed.coarse c.requires.context) c.read_keys.ensures in
+    let keys = keys_same m (class_key m c.args.self.now.partition.class c.args.kind c.args.place c.args.brother) _ _ _ old.lives
+    (class_key_same m _ _ _ _ old.classed.coarse c.requires.context) c.classes_ahead-key.ensures in
+    let split = subst (λ xs. Split xs c.classes_ahead-key.result c.args.self.now.partition.class c.args.self.now.partition.leader.items c.split.new.self.class c.split.new.self.leader.items) c.deref.ensures.0 c.split.ensures.split in
     record {
       sorted = record {
-        classed = split_classed m _ _ _ _ _ _ _ _ _ old.lives old.classed.led old.classed.coarse keys c.split.ensures.split
-            (λ p q hp hq e. old.classed.marks p q hp hq (c.split.ensures.split.finer p q e));
-        lives = fewer_lives m _ _ _ _ _ (split_lives m _ _ _ _ _ _ _ _ _ old.lives old.classed.led old.classed.coarse keys c.split.ensures.split) c.refresh.ensures;
+        classed = split_classed m _ _ _ _ _ _ old.lives old.classed.led old.classed.coarse keys split c.split.new.self.parts
+            (λ p q hp hq e. old.classed.marks p q hp hq (split.finer p q e));
+        lives = fewer_lives m _ _ _ (split_lives m _ _ _ _ _ _ old.lives old.classed.led old.classed.coarse keys split)
+            (subst (λ xs. Fewer xs c.split.new.self.class c.still_live-self.result.items) c.deref-then-count-before.ensures.0 c.still_live-self.ensures);
       };
-      more = c.split.ensures.split.more;
+      more = split.more;
       still = λ e. absurd (omega arith);
       holds = λ e. absurd (omega arith);
     }
