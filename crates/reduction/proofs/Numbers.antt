@@ -1,30 +1,18 @@
 -- The classes numbered by the search, step by step.
-use Rattle.std.proofs.Common.{◌≡◌, ℕ, suc, ◌+◌, ◌<◌, ◌≤◌, ◌≢◌, ◌⊎◌, List, length, get_or, set, replicate, [], ◌∷◌, ◌++◌, length-append, Some, None, Option, sym, refl, ap, ◌∙◌, subst, subst₂, ap₂, inl, inr, arith, get_or-set_other, get_or-set_same}
+use Rattle.std.proofs.Common.{◌≡◌, ℕ, suc, ◌+◌, ◌<◌, ◌≤◌, ◌⊎◌, List, length, get_or, set, replicate, [], ◌∷◌, ◌++◌, length-append, Some, None, Option, sym, refl, ap, ◌∙◌, subst, subst₂, ap₂, inl, inr, arith, get_or-set_other, get_or-set_same}
 use native.Mathlib.Decide.{ℕ_discrete, dec_lt}
 use Rattle.std.proofs.Math.ListN.{get_or-append}
 use Rattle.std.proofs.Math.Seq.{get_or-append_seam}
 use lib.ListN.{get_or-replicate}
 use Rattle.ruling.specs.Trees.{Kind}
 use Rattle.ruling.specs.Meanings.{Meaning, Fits, none, one, two}
-use Rattle.ruling.specs.Questions.{rank_in}
 use Rattle.ruling.specs.Rulings.{Ruled}
 use Rattle.ruling.specs.Classes.{Reached, Classes}
 use Rattle.ruling.specs.ReducedTables.{Before}
-use Rattle.ruling.proofs.Lists.{a_rank, no_rank}
 use Rattle.ruling.proofs.Pigeons.{pigeons}
 use Rattle.reduction.specs.Searching as searching
 use Rattle.reduction.specs.Numbering.{aimed_by, aimed, number_of, Spans, AllBefore, HasNumber, Source, Numbered}
-use Rattle.ruling.proofs.ArgumentLists.{fits_kind}
 use Rattle.reduction.proofs.Bounds.{list_reached}
-
-kind_of : (ks : List ℕ) (k r : ℕ) → Some r ≡ rank_in ks k → Kind ks k r
-kind_of ks k r e = let w = a_rank ks k r e in (w.0, sym w.1)
-
-two_ranks : {A : Type 0} (ks : List ℕ) (k x y : ℕ) → Kind ks k x → Kind ks k y → x ≢ y → A
-two_ranks ks k x y a b n = absurd (n (sym a.1 ∙ b.1))
-
-pub spans_none : (m : Meaning) (s k : ℕ) → None ≡ rank_in m.kinds k → Spans m s k 0 0
-spans_none m s k e = record { inside = λ a b f. absurd (omega (arith, fits_kind m.kinds s k a b f, no_rank m.kinds k e)); fits = λ a b ha hb. absurd (omega arith) }
 
 module _ (m : Meaning) (rep : List ℕ) (k a b : ℕ) where
   pub aimed_0 : Kind m.kinds k 0 → aimed m rep k a b ≡ m.target k 0 0
@@ -67,9 +55,6 @@ module _ (w : Ruled) (rep : List ℕ) (below : (i : ℕ) → get_or rep i 0 < w.
 
 -- What holds before an argument list holds before the next one.
 module _ (m : Meaning) (s : ℕ) (P : ℕ → ℕ → ℕ → Type 0) where
-  pub before_start : AllBefore m s P 0 0 0
-  before_start l x y f h = absurd (omega (arith, h))
-
   pub before_cell : (k a b : ℕ) → P k a b → AllBefore m s P k a b → AllBefore m s P k a (b + 1)
   before_cell k a b p all l x y f (inl h) = all l x y f (inl h)
   before_cell k a b p all l x y f (inr (e, inl h)) = all l x y f (inr (e, inl h))
@@ -97,10 +82,6 @@ module _ (m : Meaning) (s : ℕ) (P : ℕ → ℕ → ℕ → Type 0) where
       go (yes q) = all l x y f (inl q)
       go (no q) = let e : l ≡ k = omega arith in
           all l x y f (inr (e, inl (omega (arith, (sp.inside x y (subst (λ i. Fits m.kinds s i x y) e f)).0))))
-
-pub before_all : (w : Ruled) (s : ℕ) (P : ℕ → ℕ → ℕ → Type 0) (k : ℕ) → 16 ≤ k → AllBefore w.plain s P k 0 0
-    → (l x y : ℕ) → Fits w.plain.kinds s l x y → P l x y
-before_all w s P k h all l x y f = all l x y f (inl (omega (arith, w.list.1, fits_kind w.plain.kinds s l x y f)))
 
 some_other : {A : Type 0} {x : ℕ} {o : Option ℕ} → o ≡ Some x → o ≡ None → A
 some_other e f = absurd (let z : ◌≡◌ {A = ℕ} 0 1 = cc in omega arith)

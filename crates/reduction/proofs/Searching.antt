@@ -13,7 +13,10 @@ use Rattle.ruling.specs.Classes.{Reached}
 use Rattle.ruling.proofs.Lowest.{some_lowest}
 use Rattle.ruling.proofs.Pigeons.{pigeons}
 use Rattle.ruling.proofs.Growth.{holds_reached}
-use Rattle.reduction.specs.Searching.{ReachedList, Found, Grown, Onto, Seen, LeavesSeen, Visited, Listing}
+use Rattle.ruling.specs.declared.ruling.Ruling.{Ghosts}
+use Rattle.reduction.specs.declared.found.Search.{Search}
+use Rattle.reduction.specs.Searches.{searched, Further, Onto}
+use Rattle.reduction.specs.Searching.{ReachedList, Found, Grown, Seen, LeavesSeen, Visited, Listing}
 use Rattle.reduction.proofs.Bounds.{reached_below, list_reached, fresh}
 
 pub true_false : (b : Bool) → b ≡ true → b ≡ false → ⊥
@@ -72,10 +75,7 @@ module _ (order : List ℕ) (seen : List Bool) (t : ℕ) (flag : t < length seen
       go (yes e) = subst (λ x. get_or (set seen t true) x false ≡ true) (sym e) (get_or-set_same seen t true false flag)
       go (no d) = get_or-set_other seen t p true false d ∙ h
 
-  pub grown_more : Grown order seen (order ++ t ∷ []) (set seen t true)
-  grown_more = record { more = omega (arith, longer); keeps = old; holds = still }
-
-  pub seen_at : (x : ℕ) → t ≡ x → Seen (set seen t true) x
+  seen_at : (x : ℕ) → t ≡ x → Seen (set seen t true) x
   seen_at x e = subst (Seen (set seen t true)) e (get_or-set_same seen t true false flag)
 
   -- The place of an added state, or an earlier one.
@@ -118,21 +118,26 @@ module _ (order : List ℕ) (seen : List Bool) (t : ℕ) (flag : t < length seen
         at_once i j (no a) (yes b) h g e = absurd (not_there j b (sym (old j b) ∙ (sym e ∙ at_new i a h)))
         at_once i j (no a) (no b) h g e = last i a h ∙ sym (last j b g)
 
-pub grown_none : (order : List ℕ) (seen : List Bool) → Grown order seen order seen
-grown_none order seen = record { more = omega arith; keeps = λ i h. refl; holds = λ p h. h }
-
-pub grown_on : {o o' o'' : List ℕ} {s s' s'' : List Bool} → Grown o s o' s' → Grown o' s' o'' s'' → Grown o s o'' s''
+grown_on : {o o' o'' : List ℕ} {s s' s'' : List Bool} → Grown o s o' s' → Grown o' s' o'' s'' → Grown o s o'' s''
 grown_on g h = record {
   more = omega (arith, g.more, h.more);
   keeps = λ i l. h.keeps i (omega (arith, g.more)) ∙ g.keeps i l;
   holds = λ p l. h.holds p (g.holds p l);
 }
 
-pub onto_none : (m : Meaning) (order : List ℕ) (seen : List Bool) → Onto m order seen order seen
-onto_none m order seen = record { more = grown_none order seen; sound = λ f. f }
+module _ {R : Type 0} {G : Ghosts R} where
+  pub meaning_same : {f g : Search R G} → Further f g → searched g ≡ searched f
+  meaning_same x = ap (λ r. (G.meaning r.now).plain) x.same
 
-pub onto_on : {m : Meaning} {o o' o'' : List ℕ} {s s' s'' : List Bool} → Onto m o s o' s' → Onto m o' s' o'' s'' → Onto m o s o'' s''
-onto_on g h = record { more = grown_on g.more h.more; sound = λ f. h.sound (g.sound f) }
+  pub further_on : {f g h : Search R G} → Further f g → Further g h → Further f h
+  further_on x y = record { same = y.same ∙ x.same; more = grown_on x.more y.more }
+
+  pub onto_on : {f g h : Search R G} → Onto f g → Onto g h → Onto f h
+  onto_on {f} {g} {h} x y = record {
+    further = further_on x.further y.further;
+    sound = λ found. subst (λ r. Found (G.meaning r.now).plain h.order.items h.seen) x.further.same
+        (y.sound (subst (λ r. Found (G.meaning r.now).plain g.order.items g.seen) (sym x.further.same) (x.sound found)));
+  }
 
 pub reached_as : (m : Meaning) (t u : ℕ) → t ≡ u → Reached m.kinds m u → Reached m.kinds m t
 reached_as m t u e = subst (Reached m.kinds m) (sym e)
@@ -210,8 +215,8 @@ listing w order seen few leaf found met = record {
         go (yes l) = all_seen w.plain order seen found (met l).0 (met l).1 p h
         go (no l) = full_seen w order seen found (omega arith) p h
 
-pub found_none : (m : Meaning) (n : ℕ) → Found m [] (replicate n false)
-found_none m n = record {
+pub found_none : (m : Meaning) (order : List ℕ) (n : ℕ) → order ≡ [] → Found m order (replicate n false)
+found_none m order n e = subst (λ xs. Found m xs (replicate n false)) (sym e) record {
   reached = λ i h. absurd (omega arith);
   held = λ i h. absurd (omega arith);
   listed = λ p h. absurd (true_false (get_or (replicate n false) p false) h (fresh n false p));

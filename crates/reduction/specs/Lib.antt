@@ -1,5 +1,6 @@
 -- In reading order.
 pub mod Searching
+pub mod Searches
 pub mod Dividing
 pub mod Divisions
 pub mod Numbering

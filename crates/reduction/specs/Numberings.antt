@@ -1,17 +1,11 @@
--- The same of values of Partition and Numbering.
-use Rattle.std.specs.Prelude.{ℕ, ◌≤◌, length, Option, slice_index}
+-- The same of a value of Numbering.
+use Rattle.std.specs.Prelude.{ℕ, length, Option, slice_index}
 use Rattle.ruling.specs.declared.ruling.Ruling.{Ghosts}
 use Rattle.ruling.specs.Meanings.{Meaning, Fits}
 use Rattle.ruling.specs.Classes.{Classes}
 use Rattle.reduction.specs.declared.argument_list.ArgumentList.{ArgumentList}
-use Rattle.reduction.specs.declared.partition.Partition.{Partition}
 use Rattle.reduction.specs.declared.numbering.Numbering.{Numbering}
 use Rattle.reduction.specs.Numbering.{aimed, number_of, Numbered, Opened, numbered_meaning}
-
--- The partition is that into classes, and there are at most 32.
-pub record FewClasses (m : Meaning) (p : Partition) : Type 0 where
-  pub classes : Classes m.kinds m (length p.leader.items) (λ s. slice_index p.class s)
-  pub few : length p.leader.items ≤ 32
 
 module _ {R : Type 0} {G : Ghosts R} where
   -- What the ruling means whose classes are numbered.
@@ -29,8 +23,11 @@ module _ {R : Type 0} {G : Ghosts R} where
   abbrev pub number_by : Numbering R G → ArgumentList → Option ℕ
   number_by n list = number_of n.partition.now.class n.number (aimed_by n list)
 
-  abbrev pub NumberedBy : Numbering R G → Type 0
-  NumberedBy n = Numbered (ruled_by n) n.partition.now.class n.rep.items n.number
+  -- The partition is that into classes, and they are numbered in the order of discovery. No ghost field: such a field takes only
+  -- a fact with one proof, and this one has a record for each state and an argument list for each number.
+  pub record NumberedBy (n : Numbering R G) : Type 0 where
+    pub classes : Classes (ruled_by n).kinds (ruled_by n) (length n.partition.now.leader.items) (λ p. slice_index n.partition.now.class p)
+    pub numbered : Numbered (ruled_by n) n.partition.now.class n.rep.items n.number
 
   abbrev pub OpenedBy : Numbering R G → Option ArgumentList → Type 0
   OpenedBy n o = Opened (ruled_by n) n.partition.now.class n.rep.items n.number o

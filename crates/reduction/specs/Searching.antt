@@ -23,11 +23,6 @@ pub record Grown (order : List ℕ) (seen : List Bool) (order' : List ℕ) (seen
   pub keeps : (i : ℕ) → i < length order → slice_index order' i ≡ slice_index order i
   pub holds : (p : ℕ) → slice_index_or seen p false ≡ true → slice_index_or seen' p false ≡ true
 
--- Grown, and still sound.
-pub record Onto (m : Meaning) (order : List ℕ) (seen : List Bool) (order' : List ℕ) (seen' : List Bool) : Type 0 where
-  pub more : Grown order seen order' seen'
-  pub sound : Found m order seen → Found m order' seen'
-
 -- P, unless every state is found: then there is nothing more to look for.
 abbrev pub UnlessAll : Meaning → List ℕ → Type 0 → Type 0
 UnlessAll m order P = length order < m.states → P

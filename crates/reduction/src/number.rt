@@ -1,5 +1,6 @@
-ghost use Rattle.std.specs.Prelude.{◌≡◌, ◌+◌, Some, None, length};
-ghost use Rattle.reduction.specs.Numberings.{FewClasses, ruled_by, Over, aimed_by, number_by, NumberedBy, OpenedBy};
+ghost use Rattle.std.specs.Prelude.{◌≡◌, ◌+◌, ◌≤◌, Some, None, length, slice_index};
+ghost use Rattle.ruling.specs.Classes.{Classes};
+ghost use Rattle.reduction.specs.Numberings.{Over, aimed_by, number_by, NumberedBy, OpenedBy};
 
 use super::argument_list::ArgumentList;
 use super::numbering::Numbering;
@@ -68,7 +69,6 @@ impl<'a, R: Ruling> Numbering<'a, R> {
 
     // Gives the next number to the class of the target.
     fn give(&mut self, list: ArgumentList)
-        requires classes { FewClasses (ruled_by self.old) self.old.partition.now }
         requires numbered { NumberedBy self.old }
         requires opened { OpenedBy self.old (Some list) }
         ensures same { (self.new.ruling ≡ self.old.ruling) × (self.new.partition ≡ self.old.partition) }
@@ -83,7 +83,8 @@ impl<'a, R: Ruling> Numbering<'a, R> {
     // Numbers the classes in the order of discovery: at the first argument list whose target's class has no number, it gets
     // the next one, and the looking begins again with kind 0.
     pub(super) fn by_discovery(ruling: &'a R, partition: &'a Partition) -> Numbering<'a, R>
-        requires { FewClasses (R.Ruling.meaning ruling.now).plain partition.now }
+        requires classes { Classes (R.Ruling.meaning ruling.now).plain.kinds (R.Ruling.meaning ruling.now).plain (length partition.now.leader.items) (λ p. slice_index partition.now.class p) }
+        requires few { length partition.now.leader.items ≤ 32 }
         ensures same { (result.ruling.now ≡ ruling.now) × (result.partition.now ≡ partition.now) }
         ensures numbered { NumberedBy result }
         ensures closed { OpenedBy result None }

@@ -13,5 +13,5 @@ pub struct Numbering<'a, R: Ruling> {
     pub(super) number: [Option<u8>; 32],
     ghost few: { length rep.items ≤ 32 },
     ghost states: { (i : ℕ) → slice_index rep.items i < (R.Ruling.meaning ruling.now).plain.states },
-    ghost classes: { (p : ℕ) → slice_index partition.now.class p < 32 },
+    ghost classes: { length partition.now.leader.items ≤ 32 },
 }

@@ -2,7 +2,8 @@ ghost use Rattle.std.specs.Prelude.{◌≡◌, ℕ, ◌+◌, ◌<◌, true, ◌=
 ghost use Rattle.ruling.specs.Trees.{Kind};
 ghost use Rattle.ruling.specs.Meanings.{Fits};
 ghost use Rattle.ruling.specs.KindLists.{has_leaf};
-ghost use Rattle.reduction.specs.Searching.{ReachedList, Found, Grown, Onto, UnlessAll, Seen, LeavesSeen, BothSeen, Visited, Listing};
+ghost use Rattle.reduction.specs.Searching.{ReachedList, Found, UnlessAll, Seen, LeavesSeen, BothSeen, Visited, Listing};
+ghost use Rattle.reduction.specs.Searches.{searched, Further, Onto};
 
 use super::found::Search;
 use super::questions::target_of;
@@ -12,18 +13,17 @@ use ruling::Ruling;
 impl<'a, R: Ruling> Search<'a, R> {
     // Whether every state of the ruling is found.
     fn is_full(&self) -> bool
-        ensures { result ≡ (length self.now.order.items == (R.Ruling.meaning self.now.ruling.now).plain.states) }
+        ensures { result ≡ (length self.now.order.items == (searched self.now).states) }
     {
         self.order.len() == self.ruling.states() as usize
     }
 
     // Adds the target to the list, unless it is there.
     fn visit(&mut self, kind: u8, a: u16, b: u16)
-        requires { Fits (R.Ruling.meaning self.old.ruling.now).plain.kinds (R.Ruling.meaning self.old.ruling.now).plain.states kind a b }
-        ensures same { self.new.ruling ≡ self.old.ruling }
-        ensures more { Grown self.old.order.items self.old.seen self.new.order.items self.new.seen }
-        ensures sound { ReachedList (R.Ruling.meaning self.old.ruling.now).plain kind a b → Found (R.Ruling.meaning self.old.ruling.now).plain self.old.order.items self.old.seen → Found (R.Ruling.meaning self.old.ruling.now).plain self.new.order.items self.new.seen }
-        ensures held { UnlessAll (R.Ruling.meaning self.old.ruling.now).plain self.new.order.items (Seen self.new.seen ((R.Ruling.meaning self.old.ruling.now).plain.target kind a b)) }
+        requires { Fits (searched self.old).kinds (searched self.old).states kind a b }
+        ensures further { Further self.old self.new }
+        ensures sound { ReachedList (searched self.old) kind a b → Found (searched self.old) self.old.order.items self.old.seen → Found (searched self.old) self.new.order.items self.new.seen }
+        ensures held { UnlessAll (searched self.old) self.new.order.items (Seen self.new.seen ((searched self.old).target kind a b)) }
     {
         if self.is_full() {
             return;
@@ -37,9 +37,8 @@ impl<'a, R: Ruling> Search<'a, R> {
     }
 
     fn leaf(&mut self, kind: u8)
-        ensures same { self.new.ruling ≡ self.old.ruling }
-        ensures onto { Onto (R.Ruling.meaning self.old.ruling.now).plain self.old.order.items self.old.seen self.new.order.items self.new.seen }
-        ensures held { UnlessAll (R.Ruling.meaning self.old.ruling.now).plain self.new.order.items (Kind (R.Ruling.meaning self.old.ruling.now).plain.kinds kind 0 → Seen self.new.seen ((R.Ruling.meaning self.old.ruling.now).plain.target kind 0 0)) }
+        ensures onto { Onto self.old self.new }
+        ensures held { UnlessAll (searched self.old) self.new.order.items (Kind (searched self.old).kinds kind 0 → Seen self.new.seen ((searched self.old).target kind 0 0)) }
     {
         if let Some(0) = self.ruling.rank(kind) {
             self.visit(kind, 0, 0);
@@ -47,9 +46,8 @@ impl<'a, R: Ruling> Search<'a, R> {
     }
 
     fn leaves(&mut self)
-        ensures same { self.new.ruling ≡ self.old.ruling }
-        ensures onto { Onto (R.Ruling.meaning self.old.ruling.now).plain self.old.order.items self.old.seen self.new.order.items self.new.seen }
-        ensures held { UnlessAll (R.Ruling.meaning self.old.ruling.now).plain self.new.order.items (LeavesSeen (R.Ruling.meaning self.old.ruling.now).plain self.new.seen) }
+        ensures onto { Onto self.old self.new }
+        ensures held { UnlessAll (searched self.old) self.new.order.items (LeavesSeen (searched self.old) self.new.seen) }
     {
         for kind in 0..16u8 {
             self.leaf(kind);
@@ -58,11 +56,10 @@ impl<'a, R: Ruling> Search<'a, R> {
 
     // The states at i and j below a join, in both orders.
     fn pair(&mut self, kind: u8, i: usize, j: usize)
-        requires kind { Kind (R.Ruling.meaning self.old.ruling.now).plain.kinds kind 2 }
+        requires kind { Kind (searched self.old).kinds kind 2 }
         requires places { (i < length self.old.order.items) × (j < length self.old.order.items) }
-        ensures same { self.new.ruling ≡ self.old.ruling }
-        ensures onto { Onto (R.Ruling.meaning self.old.ruling.now).plain self.old.order.items self.old.seen self.new.order.items self.new.seen }
-        ensures held { UnlessAll (R.Ruling.meaning self.old.ruling.now).plain self.new.order.items (BothSeen (R.Ruling.meaning self.old.ruling.now).plain self.old.order.items self.new.seen kind i j) }
+        ensures onto { Onto self.old self.new }
+        ensures held { UnlessAll (searched self.old) self.new.order.items (BothSeen (searched self.old) self.old.order.items self.new.seen kind i j) }
     {
         let p = self.order[i];
         let q = self.order[j];
@@ -73,13 +70,12 @@ impl<'a, R: Ruling> Search<'a, R> {
     }
 
     fn forks(&mut self, kind: u8, i: usize)
-        requires kind { Kind (R.Ruling.meaning self.old.ruling.now).plain.kinds kind 2 }
+        requires kind { Kind (searched self.old).kinds kind 2 }
         requires place { i < length self.old.order.items }
-        ensures same { self.new.ruling ≡ self.old.ruling }
-        ensures onto { Onto (R.Ruling.meaning self.old.ruling.now).plain self.old.order.items self.old.seen self.new.order.items self.new.seen }
-        ensures held { UnlessAll (R.Ruling.meaning self.old.ruling.now).plain self.new.order.items ((j : ℕ) → j < i + 1 → BothSeen (R.Ruling.meaning self.old.ruling.now).plain self.old.order.items self.new.seen kind i j) }
+        ensures onto { Onto self.old self.new }
+        ensures held { UnlessAll (searched self.old) self.new.order.items ((j : ℕ) → j < i + 1 → BothSeen (searched self.old) self.old.order.items self.new.seen kind i j) }
     {
-        for j in 0..i + 1 {
+        for j in 0..=i {
             if self.is_full() {
                 return;
             }
@@ -90,9 +86,8 @@ impl<'a, R: Ruling> Search<'a, R> {
     // The argument lists of a kind that are made of the state at i and earlier ones.
     fn branch(&mut self, kind: u8, i: usize)
         requires { i < length self.old.order.items }
-        ensures same { self.new.ruling ≡ self.old.ruling }
-        ensures onto { Onto (R.Ruling.meaning self.old.ruling.now).plain self.old.order.items self.old.seen self.new.order.items self.new.seen }
-        ensures held { UnlessAll (R.Ruling.meaning self.old.ruling.now).plain self.new.order.items (Visited (R.Ruling.meaning self.old.ruling.now).plain self.old.order.items self.new.seen kind i) }
+        ensures onto { Onto self.old self.new }
+        ensures held { UnlessAll (searched self.old) self.new.order.items (Visited (searched self.old) self.old.order.items self.new.seen kind i) }
     {
         match self.ruling.rank(kind) {
             Some(1) => {
@@ -106,9 +101,8 @@ impl<'a, R: Ruling> Search<'a, R> {
 
     fn meet(&mut self, i: usize)
         requires { i < length self.old.order.items }
-        ensures same { self.new.ruling ≡ self.old.ruling }
-        ensures onto { Onto (R.Ruling.meaning self.old.ruling.now).plain self.old.order.items self.old.seen self.new.order.items self.new.seen }
-        ensures held { UnlessAll (R.Ruling.meaning self.old.ruling.now).plain self.new.order.items ((k : ℕ) → Visited (R.Ruling.meaning self.old.ruling.now).plain self.old.order.items self.new.seen k i) }
+        ensures onto { Onto self.old self.new }
+        ensures held { UnlessAll (searched self.old) self.new.order.items ((k : ℕ) → Visited (searched self.old) self.old.order.items self.new.seen k i) }
     {
         for kind in 0..16u8 {
             self.branch(kind, i);

@@ -1,29 +1,30 @@
-use Rattle.std.proofs.Common.{◌∙◌, ap, sym, arith, below_more}
+use Rattle.std.proofs.Common.{◌∙◌, sym, arith, below_more}
 use Rattle.std.proofs.lemmas.Bool.{eqb-true}
-use Rattle.reduction.proofs.Searching.{listing, visited_moved, found_none}
+use Rattle.reduction.proofs.Searching.{meaning_same, listing, visited_moved, found_none}
 use Rattle.reduction.proofs.visit.reached.Goals as goal
 
 pub loop-i-init : goal.loop-i-init
 loop-i-init g c = record {
-  same = ap (λ r. r.now) c.leaves.ensures.same;
-  sound = c.leaves.ensures.onto.sound (rw c.new.ensures (found_none _ 1089));
+  same = meaning_same c.leaves.ensures.onto.further;
+  sound = c.leaves.ensures.onto.sound (found_none _ _ 1089 c.new.ensures);
   met = λ more. (c.leaves.ensures.held more, λ a h. absurd (omega arith));
   within = omega arith;
 }
 
 pub loop-i-preserved : goal.loop-i-preserved
 loop-i-preserved g c =
-    let onto = rw c.loop-i.invariant.same at c.meet.ensures.onto in
+    let more = c.meet.ensures.onto.further.more in
+    let sound = rw c.loop-i.invariant.same at c.meet.ensures.onto.sound in
     let held = rw c.loop-i.invariant.same at c.meet.ensures.held in record {
-      same = ap (λ r. r.now) c.meet.ensures.same ∙ c.loop-i.invariant.same;
-      sound = onto.sound c.loop-i.invariant.sound;
-      met = λ more. let old = c.loop-i.invariant.met (omega (arith, onto.more.more)) in (
-        (λ k kind. onto.more.holds _ (old.0 k kind)),
+      same = meaning_same c.meet.ensures.onto.further ∙ c.loop-i.invariant.same;
+      sound = sound c.loop-i.invariant.sound;
+      met = λ rest. let old = c.loop-i.invariant.met (omega (arith, more.more)) in (
+        (λ k kind. more.holds _ (old.0 k kind)),
         below_more _ _
-            (λ a h k. visited_moved _ _ _ _ _ k a (λ j l. sym (onto.more.keeps j (omega arith))) onto.more.holds (old.1 a h k))
-            (λ k. visited_moved _ _ _ _ _ k _ (λ j l. sym (onto.more.keeps j (omega arith))) (λ p x. x) (held more k)),
+            (λ a h k. visited_moved _ _ _ _ _ k a (λ j l. sym (more.keeps j (omega arith))) more.holds (old.1 a h k))
+            (λ k. visited_moved _ _ _ _ _ k _ (λ j l. sym (more.keeps j (omega arith))) (λ p x. x) (held rest k)),
       );
-      within = omega (arith, onto.more.more);
+      within = omega (arith, more.more);
     }
 
 pub returns-else-not-is_full : goal.returns-else-not-is_full
