@@ -1,5 +1,5 @@
 -- What every ruling keeps to.
-use Rattle.std.proofs.Common.{◌≡◌, ℕ, ◌<◌, get_or, replicate, sym, subst, ap₂, arith}
+use Rattle.std.proofs.Common.{◌≡◌, ℕ, zero, suc, ◌<◌, List, [], ◌∷◌, ◌++◌, get_or, replicate, sym, subst, ap₂, arith}
 use native.Mathlib.Decide.{dec_lt}
 use lib.ListN.{length-replicate, get_or-replicate}
 use Rattle.std.proofs.lemmas.List.{get_or_past}
@@ -42,3 +42,10 @@ fresh n a k = go (dec_lt k n)
     go : Dec (k < n) → get_or (replicate n a) k a ≡ a
     go (yes h) = get_or-replicate n k a a h
     go (no h) = get_or_past (replicate n a) k a (rw length-replicate (omega arith))
+
+-- One number more below n.
+pub below_pushed : (xs : List ℕ) (t n : ℕ) → t < n → ((i : ℕ) → get_or xs i 0 < n) → (i : ℕ) → get_or (xs ++ t ∷ []) i 0 < n
+below_pushed [] t n h below zero = h
+below_pushed [] t n h below (suc i) = omega (arith, h)
+below_pushed (x ∷ xs) t n h below zero = below 0
+below_pushed (x ∷ xs) t n h below (suc i) = below_pushed xs t n h (λ j. below (suc j)) i

@@ -6,7 +6,7 @@ use Rattle.ruling.specs.Questions.{fitting, targeted, marked}
 use Rattle.ruling.specs.Rulings.{Ruled}
 use Rattle.encoder.specs.Tables.{cell_place}
 use Rattle.encoder.proofs.Copies.{fits_small}
-use Rattle.reduction.specs.Numbering.{Spans, aimed, number_of, numbered_meaning}
+use Rattle.reduction.specs.Numbering.{Spans, numbered_meaning}
 use Rattle.reduction.specs.Filling.{cell_at, CellFilled, Filling, AllFilled, MarksFilled}
 use Rattle.ruling.proofs.ArgumentLists.{fits_kind, told_fits, fits_targeted, state_marked}
 use Rattle.reduction.proofs.Numbers.{before_cell, before_row, before_block}
@@ -23,11 +23,6 @@ place_parts c k a b p q =
 pub cell_target : (c : Meaning) (k a b : ℕ) → c.states ≤ 32 → Fits c.kinds c.states k a b → cell_at c (cell_place k a b) ≡ c.target k a b
 cell_target c k a b few f = let w = fits_small c.kinds c.states k a b few f in
     place_parts c k a b w.0 w.1 ∙ ap (λ o. unwrap_or o 0) (fits_targeted c k a b f)
-
-pub cell_number_lem : (m : Meaning) (class rep : List ℕ) (number : List (Option ℕ)) (s k a b x : ℕ) → s ≤ 32 → Fits m.kinds s k a b
-    → Some x ≡ number_of class number (aimed m rep k a b) → x ≡ cell_at (numbered_meaning m class rep number s) (cell_place k a b)
-cell_number_lem m class rep number s k a b x few f e =
-    sym (cell_target (numbered_meaning m class rep number s) k a b few f ∙ ap (λ o. unwrap_or o 0) (sym e))
 
 pub cell_room : (w : Ruled) (s k a b n : ℕ) → n ≡ 16384 → s ≤ 32 → Fits w.plain.kinds s k a b → cell_place k a b < n
 cell_room w s k a b n e few f = let v = fits_small w.plain.kinds s k a b few f in
@@ -78,9 +73,6 @@ module _ (w : Ruled) (c : Meaning) (same : c.kinds ≡ w.plain.kinds) (few : c.s
       go (inr x) true e = subst (λ j. get_or cells j 0 ≡ cell_at c j) back
           (f.done (i / 1024) (i / 32 % 32) (i % 32) (told_fits c.kinds c.states (i / 1024) (i / 32 % 32) (i % 32) e) (inl (omega (arith, fits_kind c.kinds c.states _ _ _ (told_fits c.kinds c.states (i / 1024) (i / 32 % 32) (i % 32) e), ap length same, w.list.1))))
 
-pub filling_none : (c : Meaning) (cells : List ℕ) → ((i : ℕ) → get_or cells i 0 ≡ 0) → Filling c cells 0 0 0
-filling_none c cells zeros = record { sound = λ i. inr (zeros i); done = λ l x y f h. absurd (omega (arith, h)) }
-
 -- One mark more.
 pub marks_more : (c : Meaning) (marks : List Bool) (n : ℕ) (v : Bool) → n < length marks → n < c.states → v ≡ c.mark n → MarksFilled c marks n → MarksFilled c (set marks n v) (n + 1)
 marks_more c marks n v room h e done s l = go (ℕ_discrete s n)
@@ -96,5 +88,5 @@ pub filling_at : (c : Meaning) (cells : List ℕ) (k a b v i : ℕ) → i ≡ ce
 filling_at c cells k a b v i e room f before = subst (λ j. Filling c (set cells j v) k a (b + 1)) (sym e) (filling_cell c cells k a b v room f before)
 
 -- The numbered classes have the ruling's kinds, and so its argument lists.
-pub spans_by : (m : Meaning) (class rep : List ℕ) (number : List (Option ℕ)) (s k w v : ℕ) → Spans m s k w v → Spans (numbered_meaning m class rep number s) s k w v
-spans_by m class rep number s k w v sp = record { inside = sp.inside; fits = sp.fits }
+pub spans_by : (m : Meaning) (class rep : List ℕ) (number : List (Option ℕ)) (k w v : ℕ) → Spans m (length rep) k w v → Spans (numbered_meaning m class rep number) (length rep) k w v
+spans_by m class rep number k w v sp = record { inside = sp.inside; fits = sp.fits }

@@ -19,30 +19,30 @@ use Rattle.reduction.proofs.Numbers.{aimed_0, aimed_1, aimed_2, aimed_reached, f
 
 -- c has the ruling's kinds, the numbered classes as its states, their marks, and the numbers of the targets' classes as its targets.
 module _ (w : Ruled) (class : List ℕ) (count : ℕ) (dv : Classes w.plain.kinds w.plain count (λ p. get_or class p 0)) (few : count ≤ 32)
-    (rep : List ℕ) (number : List (Option ℕ)) (s : ℕ) (num : Numbered w.plain class rep number s) (closed : Opened w.plain class rep number s None)
-    (c : Meaning) (kinds : c.kinds ≡ w.plain.kinds) (states : c.states ≡ s) (marks : (i : ℕ) → i < s → c.mark i ≡ w.plain.mark (get_or rep i 0))
-    (targets : (k a b : ℕ) → Fits w.plain.kinds s k a b → c.target k a b ≡ unwrap_or (number_of class number (aimed w.plain rep k a b)) 0) where
+    (rep : List ℕ) (number : List (Option ℕ)) (small : length rep ≤ 32) (num : Numbered w.plain class rep number) (closed : Opened w.plain class rep number None)
+    (c : Meaning) (kinds : c.kinds ≡ w.plain.kinds) (states : c.states ≡ length rep) (marks : (i : ℕ) → i < length rep → c.mark i ≡ w.plain.mark (get_or rep i 0))
+    (targets : (k a b : ℕ) → Fits w.plain.kinds (length rep) k a b → c.target k a b ≡ unwrap_or (number_of class number (aimed w.plain rep k a b)) 0) where
   -- Each target has a number below s, and what stands for the number has the target's class.
-  lands : (k a b : ℕ) → Fits w.plain.kinds s k a b → (c.target k a b < s) × (get_or class (get_or rep (c.target k a b) 0) 0 ≡ get_or class (aimed w.plain rep k a b) 0)
-  lands k a b f = go (num.back (get_or class (aimed w.plain rep k a b) 0) (omega (arith, dv.small _ (aimed_reached w.plain rep s num.reached k a b f))))
+  lands : (k a b : ℕ) → Fits w.plain.kinds (length rep) k a b → (c.target k a b < length rep) × (get_or class (get_or rep (c.target k a b) 0) 0 ≡ get_or class (aimed w.plain rep k a b) 0)
+  lands k a b f = go (num.back (get_or class (aimed w.plain rep k a b) 0) (omega (arith, dv.small _ (aimed_reached w.plain rep (length rep) num.reached k a b f))))
     where
       go : (number_of class number (aimed w.plain rep k a b) ≡ None)
-          ⊎ ((j : ℕ) × (number_of class number (aimed w.plain rep k a b) ≡ Some j) × (j < s) × (get_or class (get_or rep j 0) 0 ≡ get_or class (aimed w.plain rep k a b) 0))
-          → (c.target k a b < s) × (get_or class (get_or rep (c.target k a b) 0) 0 ≡ get_or class (aimed w.plain rep k a b) 0)
+          ⊎ ((j : ℕ) × (number_of class number (aimed w.plain rep k a b) ≡ Some j) × (j < length rep) × (get_or class (get_or rep j 0) 0 ≡ get_or class (aimed w.plain rep k a b) 0))
+          → (c.target k a b < length rep) × (get_or class (get_or rep (c.target k a b) 0) 0 ≡ get_or class (aimed w.plain rep k a b) 0)
       go (inl z) = absurd (closed k a b f z)
       go (inr (j, z, l, e)) = let t : c.target k a b ≡ j = targets k a b f ∙ ap (λ o. unwrap_or o 0) z in
           (omega arith, ap (λ x. get_or class (get_or rep x 0) 0) t ∙ e)
 
-  lands_same : (k a b : ℕ) → Fits w.plain.kinds s k a b → Same w.plain.kinds w.plain (aimed w.plain rep k a b) (get_or rep (c.target k a b) 0)
+  lands_same : (k a b : ℕ) → Fits w.plain.kinds (length rep) k a b → Same w.plain.kinds w.plain (aimed w.plain rep k a b) (get_or rep (c.target k a b) 0)
   lands_same k a b f = let v = lands k a b f in
-      (dv.exact (aimed w.plain rep k a b) (get_or rep (c.target k a b) 0) (aimed_reached w.plain rep s num.reached k a b f) (num.reached _ v.0)).0 (sym v.1)
+      (dv.exact (aimed w.plain rep k a b) (get_or rep (c.target k a b) 0) (aimed_reached w.plain rep (length rep) num.reached k a b f) (num.reached _ v.0)).0 (sym v.1)
 
-  up : (i : ℕ) → i < c.states → i < s
+  up : (i : ℕ) → i < c.states → i < length rep
   up i h = omega arith
 
   folds : Folds w.plain.kinds w.plain c (λ i. get_or rep i 0)
   folds = record {
-    complete = λ k a b f. subst (λ z. c.target k a b < z) (sym states) (lands k a b (fits_up w.plain.kinds c.states s k a b (omega arith) f)).0;
+    complete = λ k a b f. subst (λ z. c.target k a b < z) (sym states) (lands k a b (fits_up w.plain.kinds c.states (length rep) k a b (omega arith) f)).0;
     reached = λ i h. num.reached i (up i h);
     mark = λ i h. marks i (up i h);
     leaves = λ k kind. subst (λ z. Same w.plain.kinds w.plain z (get_or rep (c.target k 0 0) 0)) (aimed_0 w.plain rep k 0 0 kind) (lands_same k 0 0 (none kind refl refl));
@@ -51,24 +51,24 @@ module _ (w : Ruled) (class : List ℕ) (count : ℕ) (dv : Classes w.plain.kind
   }
 
   -- A target with the class of what stands for j has the number j.
-  counts : (k a b j : ℕ) → Fits w.plain.kinds s k a b → j < s → get_or class (aimed w.plain rep k a b) 0 ≡ get_or class (get_or rep j 0) 0 → c.target k a b ≡ j
+  counts : (k a b j : ℕ) → Fits w.plain.kinds (length rep) k a b → j < length rep → get_or class (aimed w.plain rep k a b) 0 ≡ get_or class (get_or rep j 0) 0 → c.target k a b ≡ j
   counts k a b j f h e = targets k a b f ∙ ap (λ o. unwrap_or o 0) (ap (λ x. get_or number x None) e ∙ num.given j h)
 
-  next : (i : ℕ) → i < s → Source w.plain class rep i → Next w.plain.kinds c i
+  next : (i : ℕ) → i < length rep → Source w.plain class rep i → Next w.plain.kinds c i
   next i h v = record {
     kind = v.kind;
     first = v.first;
     second = v.second;
     fits = v.fits;
-    goes = counts v.kind v.first v.second i (fits_up w.plain.kinds i s _ _ _ (omega arith) v.fits) h v.goes;
+    goes = counts v.kind v.first v.second i (fits_up w.plain.kinds i (length rep) _ _ _ (omega arith) v.fits) h v.goes;
     before = λ k a b f p. let u = v.before k a b f p in
-        subst (λ x. x < i) (sym (counts k a b u.0 (fits_up w.plain.kinds i s k a b (omega arith) f) (omega (arith, u.1)) u.2)) u.1;
+        subst (λ x. x < i) (sym (counts k a b u.0 (fits_up w.plain.kinds i (length rep) k a b (omega arith) f) (omega (arith, u.1)) u.2)) u.1;
   }
 
   some_same : (x y : ℕ) → ◌≡◌ {A = Option ℕ} (Some x) (Some y) → x ≡ y
   some_same x y e = cc
 
-  distinct : (p q : ℕ) → p < s → q < s → Same w.plain.kinds w.plain (get_or rep p 0) (get_or rep q 0) → p ≡ q
+  distinct : (p q : ℕ) → p < length rep → q < length rep → Same w.plain.kinds w.plain (get_or rep p 0) (get_or rep q 0) → p ≡ q
   distinct p q hp hq e = some_same p q (sym (num.given p hp)
       ∙ (ap (λ x. get_or number x None) ((dv.exact (get_or rep p 0) (get_or rep q 0) (num.reached p hp) (num.reached q hq)).1 e) ∙ num.given q hq))
 
@@ -80,21 +80,21 @@ module _ (w : Ruled) (class : List ℕ) (count : ℕ) (dv : Classes w.plain.kind
 
 -- The table that holds the numbered classes is the table of the ruling.
 module _ (w : Ruled) (class : List ℕ) (count : ℕ) (dv : Classes w.plain.kinds w.plain count (λ p. get_or class p 0)) (few : count ≤ 32)
-    (rep : List ℕ) (number : List (Option ℕ)) (s : ℕ) (num : Numbered w.plain class rep number s) (closed : Opened w.plain class rep number s None)
-    (t : TableData) (long : length t.ranks ≡ 16) (copy : CopyOf (numbered_meaning w.plain class rep number s) t) where
+    (rep : List ℕ) (number : List (Option ℕ)) (small : length rep ≤ 32) (num : Numbered w.plain class rep number) (closed : Opened w.plain class rep number None)
+    (t : TableData) (long : length t.ranks ≡ 16) (copy : CopyOf (numbered_meaning w.plain class rep number) t) where
   kinds : kinds_held t ≡ w.plain.kinds
-  kinds = held_kinds (numbered_meaning w.plain class rep number s) t w.list.1 num.small long copy
+  kinds = held_kinds (numbered_meaning w.plain class rep number) t w.list.1 small long copy
 
   pub whole_table : TableOf w.plain.kinds w.plain (table_meaning t)
-  whole_table = made_table w class count dv few rep number s num closed (table_meaning t) kinds copy.states
-      (held_mark (numbered_meaning w.plain class rep number s) t w.list.1 num.small long copy)
-      (held_target (numbered_meaning w.plain class rep number s) t w.list.1 num.small long copy)
+  whole_table = made_table w class count dv few rep number small num closed (table_meaning t) kinds copy.states
+      (held_mark (numbered_meaning w.plain class rep number) t w.list.1 small long copy)
+      (held_target (numbered_meaning w.plain class rep number) t w.list.1 small long copy)
 
   pub whole_clean : CopyOf (table_meaning t) t
-  whole_clean = clean (numbered_meaning w.plain class rep number s) t w.list.1 num.small long copy
+  whole_clean = clean (numbered_meaning w.plain class rep number) t w.list.1 small long copy
 
   pub whole_counted : length (kinds_held t) ≡ t.count
-  whole_counted = held_count (numbered_meaning w.plain class rep number s) t w.list.1 num.small long copy
+  whole_counted = held_count (numbered_meaning w.plain class rep number) t w.list.1 small long copy
 
   pub whole_ranks : Ranks (kinds_held t)
   whole_ranks = subst Ranks (sym kinds) w.list.2

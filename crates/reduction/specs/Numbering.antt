@@ -1,7 +1,8 @@
 -- The classes numbered in the order of discovery.
-use Rattle.std.specs.Prelude.{◌≡◌, ℕ, zero, suc, ◌<◌, ◌≤◌, ◌⊎◌, List, length, get_or, Some, None, Option, slice_index, slice_index_or}
+use Rattle.std.specs.Prelude.{◌≡◌, ℕ, zero, suc, ◌<◌, ◌⊎◌, List, length, get_or, Some, None, Option, slice_index, slice_index_or}
 use Rattle.std.specs.Option.{unwrap_or}
 use Rattle.ruling.specs.Meanings.{Meaning, Fits}
+use Rattle.reduction.specs.declared.argument_list.ArgumentList.{ArgumentList}
 use Rattle.ruling.specs.Classes.{Reached}
 use Rattle.ruling.specs.ReducedTables.{Before}
 
@@ -31,11 +32,12 @@ AllBefore m s P k a b = (l x y : ℕ) → Fits m.kinds s l x y → Before l x y 
 abbrev pub HasNumber : Meaning → List ℕ → List ℕ → List (Option ℕ) → ℕ → ℕ → ℕ → Type 0
 HasNumber m class rep number k a b = ¬ (number_of class number (aimed m rep k a b) ≡ None)
 
--- The first argument list over s states whose target has no number, if there is one.
-abbrev pub Opened : Meaning → List ℕ → List ℕ → List (Option ℕ) → ℕ → Option (ℕ × ℕ × ℕ) → Type 0
-Opened m class rep number s None = (l x y : ℕ) → Fits m.kinds s l x y → HasNumber m class rep number l x y
-Opened m class rep number s (Some (k, a, b)) = Fits m.kinds s k a b × (number_of class number (aimed m rep k a b) ≡ None)
-    × AllBefore m s (HasNumber m class rep number) k a b
+-- The first argument list over the numbered classes whose target has no number, if there is one.
+abbrev pub Opened : Meaning → List ℕ → List ℕ → List (Option ℕ) → Option ArgumentList → Type 0
+Opened m class rep number None = (l x y : ℕ) → Fits m.kinds (length rep) l x y → HasNumber m class rep number l x y
+Opened m class rep number (Some list) = Fits m.kinds (length rep) list.kind list.first list.second
+    × (number_of class number (aimed m rep list.kind list.first list.second) ≡ None)
+    × AllBefore m (length rep) (HasNumber m class rep number) list.kind list.first list.second
 
 -- The argument list at which the class numbered i was discovered.
 pub record Source (m : Meaning) (class rep : List ℕ) (i : ℕ) : Type 0 where
@@ -47,22 +49,19 @@ pub record Source (m : Meaning) (class rep : List ℕ) (i : ℕ) : Type 0 where
   pub before : (k a b : ℕ) → Fits m.kinds i k a b → Before k a b kind first second
       → (j : ℕ) × (j < i) × (slice_index class (aimed m rep k a b) ≡ slice_index class (slice_index rep j))
 
--- s classes have numbers, in the order of discovery; rep holds a state of each.
-pub record Numbered (m : Meaning) (class rep : List ℕ) (number : List (Option ℕ)) (s : ℕ) : Type 0 where
-  pub room : length rep ≡ 32
-  pub names : length number ≡ 32
-  pub small : s ≤ 32
-  pub reached : (i : ℕ) → i < s → Reached m.kinds m (slice_index rep i)
-  pub given : (i : ℕ) → i < s → number_of class number (slice_index rep i) ≡ Some i
+-- Classes have numbers, in the order of discovery; rep holds a state of each.
+pub record Numbered (m : Meaning) (class rep : List ℕ) (number : List (Option ℕ)) : Type 0 where
+  pub reached : (i : ℕ) → i < length rep → Reached m.kinds m (slice_index rep i)
+  pub given : (i : ℕ) → i < length rep → number_of class number (slice_index rep i) ≡ Some i
   pub back : (x : ℕ) → x < 32 → (slice_index_or number x None ≡ None)
-      ⊎ ((j : ℕ) × (slice_index_or number x None ≡ Some j) × (j < s) × (slice_index class (slice_index rep j) ≡ x))
-  pub source : (i : ℕ) → i < s → Source m class rep i
+      ⊎ ((j : ℕ) × (slice_index_or number x None ≡ Some j) × (j < length rep) × (slice_index class (slice_index rep j) ≡ x))
+  pub source : (i : ℕ) → i < length rep → Source m class rep i
 
 -- What the numbered classes mean.
-abbrev pub numbered_meaning : Meaning → List ℕ → List ℕ → List (Option ℕ) → ℕ → Meaning
-numbered_meaning m class rep number s = record {
+abbrev pub numbered_meaning : Meaning → List ℕ → List ℕ → List (Option ℕ) → Meaning
+numbered_meaning m class rep number = record {
   kinds = m.kinds;
-  states = s;
+  states = length rep;
   target = λ k a b. unwrap_or (number_of class number (aimed m rep k a b)) 0;
   mark = λ i. m.mark (slice_index rep i);
 }

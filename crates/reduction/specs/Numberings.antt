@@ -1,22 +1,36 @@
--- The same of values of Partition and Numbering.
-use Rattle.std.specs.Prelude.{◌≤◌, None, slice_index}
-use Rattle.ruling.specs.Meanings.{Meaning}
+-- The same of a value of Numbering.
+use Rattle.std.specs.Prelude.{ℕ, length, Option, slice_index}
+use Rattle.ruling.specs.declared.ruling.Ruling.{Ghosts}
+use Rattle.ruling.specs.Meanings.{Meaning, Fits}
 use Rattle.ruling.specs.Classes.{Classes}
-use Rattle.reduction.specs.declared.partition.Partition.{Partition}
+use Rattle.reduction.specs.declared.argument_list.ArgumentList.{ArgumentList}
 use Rattle.reduction.specs.declared.numbering.Numbering.{Numbering}
-use Rattle.reduction.specs.Numbering.{Numbered, Opened, numbered_meaning}
+use Rattle.reduction.specs.Numbering.{aimed, number_of, Numbered, Opened, numbered_meaning}
 
--- The partition is that into classes, and there are at most 32.
-pub record FewClasses (m : Meaning) (p : Partition) : Type 0 where
-  pub classes : Classes m.kinds m p.count (λ s. slice_index p.class s)
-  pub few : p.count ≤ 32
+module _ {R : Type 0} {G : Ghosts R} where
+  -- What the ruling means whose classes are numbered.
+  abbrev pub ruled_by : Numbering R G → Meaning
+  ruled_by n = (G.meaning n.ruling.now).plain
 
-abbrev pub NumberedBy : Meaning → Partition → Numbering → Type 0
-NumberedBy m p n = Numbered m p.class n.rep n.number n.count
+  -- An argument list over the numbered classes.
+  abbrev pub Over : Numbering R G → ArgumentList → Type 0
+  Over n list = Fits (ruled_by n).kinds (length n.rep.items) list.kind list.first list.second
 
--- Every target of numbered classes has a number.
-abbrev pub Closed : Meaning → Partition → Numbering → Type 0
-Closed m p n = Opened m p.class n.rep n.number n.count None
+  -- Its target, and the number of the target's class.
+  abbrev pub aimed_by : Numbering R G → ArgumentList → ℕ
+  aimed_by n list = aimed (ruled_by n) n.rep.items list.kind list.first list.second
 
-abbrev pub meaning_by : Meaning → Partition → Numbering → Meaning
-meaning_by m p n = numbered_meaning m p.class n.rep n.number n.count
+  abbrev pub number_by : Numbering R G → ArgumentList → Option ℕ
+  number_by n list = number_of n.partition.now.class n.number (aimed_by n list)
+
+  -- The partition is that into classes, and they are numbered in the order of discovery. No ghost field: such a field takes only
+  -- a fact with one proof, and this one has a record for each state and an argument list for each number.
+  pub record NumberedBy (n : Numbering R G) : Type 0 where
+    pub classes : Classes (ruled_by n).kinds (ruled_by n) (length n.partition.now.leader.items) (λ p. slice_index n.partition.now.class p)
+    pub numbered : Numbered (ruled_by n) n.partition.now.class n.rep.items n.number
+
+  abbrev pub OpenedBy : Numbering R G → Option ArgumentList → Type 0
+  OpenedBy n o = Opened (ruled_by n) n.partition.now.class n.rep.items n.number o
+
+  abbrev pub meaning_by : Numbering R G → Meaning
+  meaning_by n = numbered_meaning (ruled_by n) n.partition.now.class n.rep.items n.number

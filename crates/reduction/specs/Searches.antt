@@ -1,20 +1,22 @@
--- The same of a value of Search.
-use Rattle.std.specs.Prelude.{◌<◌}
+-- The same of values of Search.
+use Rattle.std.specs.Prelude.{◌≡◌}
+use Rattle.ruling.specs.declared.ruling.Ruling.{Ghosts}
 use Rattle.ruling.specs.Meanings.{Meaning}
 use Rattle.reduction.specs.declared.found.Search.{Search}
-use Rattle.reduction.specs.Searching.{Found, Grown, Listing}
+use Rattle.reduction.specs.Searching.{Found, Grown}
 
-abbrev pub Sound : Meaning → Search → Type 0
-Sound m f = Found m f.order f.seen f.count
+module _ {R : Type 0} {G : Ghosts R} where
+  -- What the ruling means whose states are looked for.
+  abbrev pub searched : Search R G → Meaning
+  searched f = (G.meaning f.ruling.now).plain
 
--- g is sound, and has what f has.
-pub record Onto (m : Meaning) (f g : Search) : Type 0 where
-  pub sound : Found m g.order g.seen g.count
-  pub more : Grown f.order f.seen f.count g.order g.seen g.count
+  -- g is a search of the ruling of f, and has what f has.
+  pub record Further (f g : Search R G) : Type 0 where
+    pub same : g.ruling ≡ f.ruling
+    pub more : Grown f.order.items f.seen g.order.items g.seen
 
--- P, unless every state is found: then there is nothing more to look for.
-abbrev pub UnlessAll : Meaning → Search → Type 0 → Type 0
-UnlessAll m f P = f.count < m.states → P
-
-abbrev pub Listed : Meaning → Search → Type 0
-Listed m f = Listing m f.order f.count
+  -- And what is found is sound, if it was. No ghost field says that it is: such a field takes only a fact with one proof, and
+  -- this one has a record for each state.
+  pub record Onto (f g : Search R G) : Type 0 where
+    pub further : Further f g
+    pub sound : Found (searched f) f.order.items f.seen → Found (searched f) g.order.items g.seen

@@ -10,21 +10,22 @@ pub data ReachedList (m : Meaning) (k a b : ℕ) : Type 0 where
   one : Kind m.kinds k 1 → Reached m.kinds m a → b ≡ 0 → ReachedList m k a b
   two : Kind m.kinds k 2 → Reached m.kinds m a → Reached m.kinds m b → ReachedList m k a b
 
--- The first n places of order hold reached states, each once, and seen says yes of exactly these.
-pub record Found (m : Meaning) (order : List ℕ) (seen : List Bool) (n : ℕ) : Type 0 where
-  pub room : length order ≡ 1089
-  pub flags : length seen ≡ 1089
-  pub few : n ≤ m.states
-  pub reached : (i : ℕ) → i < n → Reached m.kinds m (slice_index order i)
-  pub held : (i : ℕ) → i < n → slice_index_or seen (slice_index order i) false ≡ true
-  pub listed : (p : ℕ) → slice_index_or seen p false ≡ true → (i : ℕ) × (i < n) × (slice_index order i ≡ p)
-  pub once : (i j : ℕ) → i < n → j < n → slice_index order i ≡ slice_index order j → i ≡ j
+-- The list holds reached states, each once, and seen says yes of exactly these.
+pub record Found (m : Meaning) (order : List ℕ) (seen : List Bool) : Type 0 where
+  pub reached : (i : ℕ) → i < length order → Reached m.kinds m (slice_index order i)
+  pub held : (i : ℕ) → i < length order → slice_index_or seen (slice_index order i) false ≡ true
+  pub listed : (p : ℕ) → slice_index_or seen p false ≡ true → (i : ℕ) × (i < length order) × (slice_index order i ≡ p)
+  pub once : (i j : ℕ) → i < length order → j < length order → slice_index order i ≡ slice_index order j → i ≡ j
 
 -- What was found stays found, where it was.
-pub record Grown (order : List ℕ) (seen : List Bool) (n : ℕ) (order' : List ℕ) (seen' : List Bool) (n' : ℕ) : Type 0 where
-  pub more : n ≤ n'
-  pub keeps : (i : ℕ) → i < n → slice_index order' i ≡ slice_index order i
+pub record Grown (order : List ℕ) (seen : List Bool) (order' : List ℕ) (seen' : List Bool) : Type 0 where
+  pub more : length order ≤ length order'
+  pub keeps : (i : ℕ) → i < length order → slice_index order' i ≡ slice_index order i
   pub holds : (p : ℕ) → slice_index_or seen p false ≡ true → slice_index_or seen' p false ≡ true
+
+-- P, unless every state is found: then there is nothing more to look for.
+abbrev pub UnlessAll : Meaning → List ℕ → Type 0 → Type 0
+UnlessAll m order P = length order < m.states → P
 
 abbrev pub Seen : List Bool → ℕ → Type 0
 Seen seen p = slice_index_or seen p false ≡ true
@@ -42,10 +43,9 @@ pub record Visited (m : Meaning) (order : List ℕ) (seen : List Bool) (k i : �
   pub forks : Kind m.kinds k 2 → (j : ℕ) → j < i + 1 → BothSeen m order seen k i j
 
 -- All reached states, each once.
-pub record Listing (m : Meaning) (order : List ℕ) (n : ℕ) : Type 0 where
-  pub some : 0 < n
-  pub few : n ≤ m.states
-  pub room : length order ≡ 1089
-  pub reached : (i : ℕ) → i < n → Reached m.kinds m (slice_index order i)
-  pub all : (p : ℕ) → Reached m.kinds m p → (i : ℕ) × (i < n) × (slice_index order i ≡ p)
-  pub once : (i j : ℕ) → i < n → j < n → slice_index order i ≡ slice_index order j → i ≡ j
+pub record Listing (m : Meaning) (order : List ℕ) : Type 0 where
+  pub some : 0 < length order
+  pub few : length order ≤ m.states
+  pub reached : (i : ℕ) → i < length order → Reached m.kinds m (slice_index order i)
+  pub all : (p : ℕ) → Reached m.kinds m p → (i : ℕ) × (i < length order) × (slice_index order i ≡ p)
+  pub once : (i j : ℕ) → i < length order → j < length order → slice_index order i ≡ slice_index order j → i ≡ j

@@ -1,82 +1,50 @@
-ghost use Rattle.std.specs.Prelude.{◌≡◌, ℕ, ◌<◌, ◌≤◌, length, slice_index};
-ghost use Rattle.ruling.specs.Classes.{Reached};
-ghost use Rattle.ruling.specs.Written.{mark_byte};
-ghost use Rattle.reduction.specs.Dividing.{Keys, mark_key, Whole};
-ghost use Rattle.reduction.specs.Divisions.{Sorted};
-ghost use Rattle.reduction.specs.Searches.{Listed};
+ghost use Rattle.std.specs.Prelude.{◌≡◌, ◌<◌};
+ghost use Rattle.reduction.specs.Dividing.{mark_key, Whole};
+ghost use Rattle.reduction.specs.Searching.{Listing};
 
 use super::division::Division;
-use super::found::Search;
-use super::live::Live;
+use super::keys::keys_of;
 use super::partition::Partition;
 use super::questions::mark_of;
+use super::refresh::still_live;
+use arrayvec::ArrayVec;
 use ruling::Ruling;
-
-fn mark_key(mark: bool) -> u16
-    ensures { result ≡ mark_byte mark }
-{
-    if mark { 1 } else { 0 }
-}
-
-// The mark of each live state as its key.
-fn read_marks<R: Ruling>(ruling: &R, live: &Live, key: &mut [u16])
-    requires few { live.now.count ≤ 1089 }
-    requires reached { (x : ℕ) → x < live.now.count → Reached (R.Ruling.meaning ruling.now).plain.kinds (R.Ruling.meaning ruling.now).plain (slice_index live.now.states x) }
-    requires key { length key.old ≡ 1089 }
-    ensures { Keys (mark_key (R.Ruling.meaning ruling.now).plain) live.now.states live.now.count key.new }
-{
-    for x in 0..live.count {
-        let state = live.states[x as usize];
-        let mark = mark_key(mark_of(ruling, state));
-        key[state as usize] = mark;
-    }
-}
 
 impl Partition {
     // One class of all states, led by this one.
     fn whole(state: u16) -> Partition
-        ensures { Whole result.class result.leader result.count state }
+        requires { state < 1089 }
+        ensures { Whole result.class result.leader.items state }
     {
-        let mut leader = [0; 1089];
-        leader[0] = state;
+        let mut leader = ArrayVec::new();
+        leader.push(state);
         Partition {
             class: [0; 1089],
             leader,
-            count: 1,
         }
     }
 }
 
-impl Live {
-    // All listed states.
-    fn all(list: &Search) -> Live
-        ensures { (result.states ≡ list.now.order) × (result.count ≡ list.now.count) }
-    {
-        Live {
-            states: list.order,
-            count: list.count,
-        }
-    }
-}
-
-impl Division {
+impl<'a, R: Ruling> Division<'a, R> {
     // The listed states, divided by their marks.
-    pub(super) fn by_marks<R: Ruling>(ruling: &R, list: &Search) -> Division
-        requires { Listed (R.Ruling.meaning ruling.now).plain list.now }
-        ensures { Sorted (R.Ruling.meaning ruling.now).plain result }
+    pub(super) fn by_marks(ruling: &'a R, list: &[u16]) -> Self
+        requires { Listing (R.Ruling.meaning ruling.now).plain list.now }
+        ensures { result.ruling ≡ ruling.entry }
     {
-        let mut live = Live::all(list);
-        let mut partition = Partition::whole(list.order[0]);
-        let mut key = [0; 1089];
-        read_marks(ruling, &live, &mut key);
-        partition.split(&live, &key);
-        let mut shared = [false; 1089];
-        live.refresh(&partition, &mut shared);
+        let keys = keys_of(
+            list,
+            |state| -> u16
+                requires { state < (R.Ruling.meaning ruling.now).plain.states }
+                ensures { result ≡ mark_key (R.Ruling.meaning ruling.entry.now).plain state }
+            { u16::from(mark_of(ruling, state)) },
+        );
+        let mut partition = Partition::whole(list[0]);
+        partition.split(list, &keys);
+        let live = still_live(list, &partition);
         Division {
+            ruling,
             partition,
             live,
-            key,
-            shared,
         }
     }
 }

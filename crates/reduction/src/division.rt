@@ -1,11 +1,15 @@
-use super::live::Live;
-use super::partition::Partition;
+ghost use Rattle.reduction.specs.Dividing.{Sorted};
 
-// Classes that are being divided, the live states, and the room for a sweep.
+use super::partition::Partition;
+use arrayvec::ArrayVec;
+use ruling::Ruling;
+
+// The classes of a ruling's reached states, as far as they are told apart, and the live states: every reached state that is not
+// known to be alone in its class.
 #[derive(Drop)]
-pub struct Division {
+pub struct Division<'a, R: Ruling> {
+    pub(super) ruling: &'a R,
     pub(super) partition: Partition,
-    pub(super) live: Live,
-    pub(super) key: [u16; 1089],
-    pub(super) shared: [bool; 1089],
+    pub(super) live: ArrayVec<u16, 1089>,
+    ghost sorted: { ∥ Sorted (R.Ruling.meaning ruling.now).plain partition.class partition.leader.items live.items ∥₁ },
 }

@@ -1,15 +1,16 @@
 // From any ruling to the one smallest table of its set.
 #![tactic(auto)]
 
+mod argument_list;
 mod begin;
+mod context;
 mod division;
 mod fill;
 mod found;
-mod live;
+mod keys;
 mod number;
 mod numbering;
 mod partition;
-mod place;
 mod questions;
 mod refine;
 mod refresh;

@@ -8,10 +8,7 @@ pub(super) fn target_of<R: Ruling>(ruling: &R, kind: u8, a: u16, b: u16) -> u16
     requires { Fits (R.Ruling.meaning ruling.now).plain.kinds (R.Ruling.meaning ruling.now).plain.states kind a b }
     ensures { result ≡ (R.Ruling.meaning ruling.now).plain.target kind a b }
 {
-    match ruling.target(kind, a, b) {
-        Some(state) => state,
-        None => 0,
-    }
+    ruling.target(kind, a, b).unwrap()
 }
 
 // The mark of what is known to be a state.
@@ -19,8 +16,5 @@ pub(super) fn mark_of<R: Ruling>(ruling: &R, state: u16) -> bool
     requires { state < (R.Ruling.meaning ruling.now).plain.states }
     ensures { result ≡ (R.Ruling.meaning ruling.now).plain.mark state }
 {
-    match ruling.mark(state) {
-        Some(mark) => mark,
-        None => false,
-    }
+    ruling.mark(state).unwrap()
 }

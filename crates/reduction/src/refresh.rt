@@ -1,78 +1,47 @@
-ghost use Rattle.std.specs.Prelude.{◌≡◌, ℕ, ◌+◌, ◌<◌, ◌≤◌, Bool, true, false, length, if◌then◌else◌, slice_index};
-ghost use Rattle.reduction.specs.Dividing.{Shared, Keeping};
-ghost use Rattle.reduction.specs.Divisions.{PartsOf, RoomOf, FewerOf};
+ghost use Rattle.std.specs.Prelude.{◌≡◌, ℕ, ◌<◌, ◌≤◌, false, length, All, filter, slice_index, slice_index_or};
+ghost use Rattle.reduction.specs.Dividing.{Shared};
+ghost use Rattle.reduction.specs.Divisions.{FewerOf};
 
-use super::live::Live;
 use super::partition::Partition;
+use arrayvec::ArrayVec;
 
-// Forgets which classes were shared.
-fn forget_shared(live: &Live, partition: &Partition, shared: &mut [bool])
-    requires room { RoomOf live.now partition.now }
-    requires classes { (p : ℕ) → slice_index partition.now.class p < 1089 }
-    requires shared { length shared.old ≡ 1089 }
+// The classes that have a live state beside their leader.
+fn shared_classes(live: &[u16], partition: &Partition) -> [bool; 1089]
+    requires { All (λ s. s < 1089) live.now }
+    ensures { Shared live.now partition.now.class partition.now.leader.items result }
 {
-    for x in 0..live.count {
-        let class = partition.class[live.states[x as usize] as usize];
-        shared[class as usize] = false;
+    let mut shared = [false; 1089];
+    for state in live {
+        let class = partition.class[*state as usize] as usize;
+        if partition.leader[class] != *state {
+            shared[class] = true;
+        }
     }
+    shared
 }
 
-// A class is shared if it is known to be, or has this state beside its leader.
-fn is_shared(known: bool, leader: u16, state: u16) -> bool
-    ensures known { known ≡ true → result ≡ true }
-    ensures other { ¬ (leader ≡ state) → result ≡ true }
+// The live states whose class is shared.
+fn in_shared(live: &[u16], class: &[u16; 1089], shared: &[bool; 1089]) -> ArrayVec<u16, 1089>
+    requires few { length live.now ≤ 1089 }
+    requires small { All (λ s. s < 1089) live.now }
+    requires classes { (p : ℕ) → slice_index class.now p < 1089 }
+    ensures { result.items ≡ filter (λ s. slice_index_or shared.now (slice_index class.now s) false) live.now }
 {
-    known || leader != state
-}
-
-// Notes the classes that have a live state beside their leader.
-fn note_shared(live: &Live, partition: &Partition, shared: &mut [bool])
-    requires room { RoomOf live.now partition.now }
-    requires classes { (p : ℕ) → slice_index partition.now.class p < 1089 }
-    requires shared { length shared.old ≡ 1089 }
-    ensures { Shared live.now.states live.now.count partition.now.class partition.now.leader shared.new }
-{
-    for x in 0..live.count {
-        let state = live.states[x as usize];
-        let class = partition.class[state as usize] as usize;
-        let noted = is_shared(shared[class], partition.leader[class], state);
-        shared[class] = noted;
+    let mut kept = ArrayVec::new();
+    for state in live {
+        if shared[class[*state as usize] as usize] {
+            kept.push(*state);
+        }
     }
+    kept
 }
 
-fn counted(count: u16, yes: bool) -> u16
-    requires { count < 1089 }
-    ensures { result ≡ (if yes then count + 1 else count) }
+// The live states that are not alone in their class.
+pub(super) fn still_live(live: &[u16], partition: &Partition) -> ArrayVec<u16, 1089>
+    requires few { length live.now ≤ 1089 }
+    requires small { All (λ s. s < 1089) live.now }
+    ensures { FewerOf live.now partition.now result.items }
 {
-    if yes { count + 1 } else { count }
-}
-
-// Keeps the first n states whose class is shared, at the front; answers their number.
-fn keep_shared(states: &mut [u16], n: u16, class: &[u16], shared: &[bool]) -> u16
-    requires states { (length states.old ≡ 1089) × (n ≤ 1089) }
-    requires small { (x : ℕ) → x < n → slice_index states.old x < length class.now }
-    requires classes { (p : ℕ) → slice_index class.now p < length shared.now }
-    ensures { Keeping states.old n class.now shared.now n states.new result }
-{
-    let mut count = 0;
-    for x in 0..n {
-        let state = states[x as usize];
-        states[count as usize] = state;
-        count = counted(count, shared[class[state as usize] as usize]);
-    }
-    count
-}
-
-impl Live {
-    // Drops the states that are alone in their class.
-    pub(super) fn refresh(&mut self, partition: &Partition, shared: &mut [bool])
-        requires room { RoomOf self.old partition.now }
-        requires parts { PartsOf partition.now }
-        requires shared { length shared.old ≡ 1089 }
-        ensures { FewerOf self.old partition.now self.new }
-    {
-        forget_shared(self, partition, shared);
-        note_shared(self, partition, shared);
-        self.count = keep_shared(&mut self.states, self.count, &partition.class, shared);
-    }
+    let shared = shared_classes(live, partition);
+    in_shared(live, &partition.class, &shared)
 }

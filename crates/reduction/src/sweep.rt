@@ -1,70 +1,56 @@
-ghost use Rattle.std.specs.Prelude.{◌≡◌, length};
-ghost use Rattle.ruling.specs.Classes.{Reached};
-ghost use Rattle.reduction.specs.Dividing.{Context, stepped, Lives, Keys, class_key, Even};
-ghost use Rattle.reduction.specs.Divisions.{Sorted, Finer};
+ghost use Rattle.std.specs.Prelude.{◌≡◌, ◌<◌};
+ghost use Rattle.reduction.specs.Dividing.{IsContext, stepped, Keys, class_key, Even};
+ghost use Rattle.reduction.specs.Divisions.{Finer};
 
+use super::context::Context;
 use super::division::Division;
-use super::live::Live;
-use super::place::Place;
+use super::keys::keys_of;
 use super::questions::target_of;
+use super::refresh::still_live;
 use ruling::Ruling;
 
 // Where a state leads in a context.
-fn onward<R: Ruling>(ruling: &R, kind: u8, place: Place, brother: u16, state: u16) -> u16
-    requires context { Context (R.Ruling.meaning ruling.now).plain kind place brother }
-    requires reached { Reached (R.Ruling.meaning ruling.now).plain.kinds (R.Ruling.meaning ruling.now).plain state }
-    ensures { result ≡ stepped (R.Ruling.meaning ruling.now).plain kind place brother state }
+fn onward<R: Ruling>(ruling: &R, context: Context, state: u16) -> u16
+    requires context { IsContext (R.Ruling.meaning ruling.now).plain context }
+    requires state { state < (R.Ruling.meaning ruling.now).plain.states }
+    ensures { result ≡ stepped (R.Ruling.meaning ruling.now).plain context state }
 {
-    match place {
-        Place::Under => target_of(ruling, kind, state, 0),
-        Place::Left => target_of(ruling, kind, state, brother),
-        Place::Right => target_of(ruling, kind, brother, state),
+    match context {
+        Context::Under { kind } => target_of(ruling, kind, state, 0),
+        Context::Left { kind, brother } => target_of(ruling, kind, state, brother),
+        Context::Right { kind, brother } => target_of(ruling, kind, brother, state),
     }
 }
 
-// The class that each live state leads to, by the classes as they are.
-fn read_keys<R: Ruling>(
-    ruling: &R,
-    live: &Live,
-    class: &[u16],
-    kind: u8,
-    place: Place,
-    brother: u16,
-    key: &mut [u16],
-)
-    requires context { Context (R.Ruling.meaning ruling.now).plain kind place brother }
-    requires lives { Lives (R.Ruling.meaning ruling.now).plain class.now live.now.states live.now.count }
-    requires class { length class.now ≡ 1089 }
-    requires key { length key.old ≡ 1089 }
-    ensures { Keys (class_key (R.Ruling.meaning ruling.now).plain class.now kind place brother) live.now.states live.now.count key.new }
-{
-    for x in 0..live.count {
-        let state = live.states[x as usize];
-        let t = onward(ruling, kind, place, brother, state);
-        key[state as usize] = class[t as usize];
-    }
-}
-
-impl Division {
-    // Divides every class by where its members lead in a context; all keys are read before any class is written.
-    pub(super) fn sweep<R: Ruling>(&mut self, ruling: &R, kind: u8, place: Place, brother: u16)
-        requires context { Context (R.Ruling.meaning ruling.now).plain kind place brother }
-        requires sorted { Sorted (R.Ruling.meaning ruling.now).plain self.old }
-        ensures { Finer (R.Ruling.meaning ruling.now).plain self.old self.new (λ class leader. Even (R.Ruling.meaning ruling.now).plain class kind place brother) }
+impl<'a, R: Ruling> Division<'a, R> {
+    // The class that each live state leads to in a context.
+    fn classes_ahead(&self, context: Context) -> [u16; 1089]
+        requires { IsContext (R.Ruling.meaning self.now.ruling.now).plain context }
+        ensures { Keys (class_key (R.Ruling.meaning self.now.ruling.now).plain self.now.partition.class context) self.now.live.items result }
     {
-        read_keys(
-            ruling,
+        let ruling = self.ruling;
+        let class = &self.partition.class;
+        keys_of(
             &self.live,
-            &self.partition.class,
-            kind,
-            place,
-            brother,
-            &mut self.key,
-        );
-        let before = self.partition.count;
-        self.partition.split(&self.live, &self.key);
-        if self.partition.count != before {
-            self.live.refresh(&self.partition, &mut self.shared);
+            |state| -> u16
+                requires context { IsContext (R.Ruling.meaning ruling.now).plain context }
+                requires state { state < (R.Ruling.meaning ruling.now).plain.states }
+                ensures { result ≡ class_key (R.Ruling.meaning ruling.entry.now).plain class.entry.now context state }
+            { class[onward(ruling, context, state) as usize] },
+        )
+    }
+
+    // Divides every class by where its members lead in a context; all keys are read before any class is written.
+    pub(super) fn sweep(&mut self, context: Context)
+        requires { IsContext (R.Ruling.meaning self.old.ruling.now).plain context }
+        ensures same { self.new.ruling ≡ self.old.ruling }
+        ensures finer { Finer self.old.partition self.new.partition (λ class leader. Even (R.Ruling.meaning self.old.ruling.now).plain class context) }
+    {
+        let before = self.partition.count();
+        let key = self.classes_ahead(context);
+        self.partition.split(&self.live, &key);
+        if self.partition.count() != before {
+            self.live = still_live(&self.live, &self.partition);
         }
     }
 }

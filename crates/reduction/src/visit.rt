@@ -1,143 +1,131 @@
-ghost use Rattle.std.specs.Prelude.{◌≡◌, ℕ, ◌+◌, ◌<◌, true, ◌==◌, slice_index};
+ghost use Rattle.std.specs.Prelude.{◌≡◌, ℕ, ◌+◌, ◌<◌, true, ◌==◌, length};
 ghost use Rattle.ruling.specs.Trees.{Kind};
+ghost use Rattle.ruling.specs.Meanings.{Fits};
 ghost use Rattle.ruling.specs.KindLists.{has_leaf};
-ghost use Rattle.reduction.specs.Searching.{ReachedList, Seen, LeavesSeen, BothSeen, Visited};
-ghost use Rattle.reduction.specs.Searches.{Sound, Onto, UnlessAll, Listed};
+ghost use Rattle.reduction.specs.Searching.{ReachedList, Found, UnlessAll, Seen, LeavesSeen, BothSeen, Visited, Listing};
+ghost use Rattle.reduction.specs.Searches.{searched, Further, Onto};
 
 use super::found::Search;
 use super::questions::target_of;
+use arrayvec::ArrayVec;
 use ruling::Ruling;
 
-impl Search {
-    // The state at a place.
-    pub(super) fn at(&self, place: u16) -> u16
-        requires { place < 1089 }
-        ensures { result ≡ slice_index self.now.order place }
-    {
-        self.order[place as usize]
-    }
-
+impl<'a, R: Ruling> Search<'a, R> {
     // Whether every state of the ruling is found.
-    fn is_full<R: Ruling>(&self, ruling: &R) -> bool
-        ensures { result ≡ (self.now.count == (R.Ruling.meaning ruling.now).plain.states) }
+    fn is_full(&self) -> bool
+        ensures { result ≡ (length self.now.order.items == (searched self.now).states) }
     {
-        self.count == ruling.states()
+        self.order.len() == self.ruling.states() as usize
     }
 
     // Adds the target to the list, unless it is there.
-    fn visit<R: Ruling>(&mut self, ruling: &R, kind: u8, a: u16, b: u16)
-        requires sound { Sound (R.Ruling.meaning ruling.now).plain self.old }
-        requires from { ReachedList (R.Ruling.meaning ruling.now).plain kind a b }
-        ensures onto { Onto (R.Ruling.meaning ruling.now).plain self.old self.new }
-        ensures held { UnlessAll (R.Ruling.meaning ruling.now).plain self.new (Seen self.new.seen ((R.Ruling.meaning ruling.now).plain.target kind a b)) }
+    fn visit(&mut self, kind: u8, a: u16, b: u16)
+        requires { Fits (searched self.old).kinds (searched self.old).states kind a b }
+        ensures further { Further self.old self.new }
+        ensures sound { ReachedList (searched self.old) kind a b → Found (searched self.old) self.old.order.items self.old.seen → Found (searched self.old) self.new.order.items self.new.seen }
+        ensures held { UnlessAll (searched self.old) self.new.order.items (Seen self.new.seen ((searched self.old).target kind a b)) }
     {
-        if self.is_full(ruling) {
+        if self.is_full() {
             return;
         }
-        let t = target_of(ruling, kind, a, b);
+        let t = target_of(self.ruling, kind, a, b);
         if self.seen[t as usize] {
             return;
         }
         self.seen[t as usize] = true;
-        self.order[self.count as usize] = t;
-        self.count += 1;
+        self.order.push(t);
     }
 
-    fn leaf<R: Ruling>(&mut self, ruling: &R, kind: u8)
-        requires { Sound (R.Ruling.meaning ruling.now).plain self.old }
-        ensures onto { Onto (R.Ruling.meaning ruling.now).plain self.old self.new }
-        ensures held { UnlessAll (R.Ruling.meaning ruling.now).plain self.new (Kind (R.Ruling.meaning ruling.now).plain.kinds kind 0 → Seen self.new.seen ((R.Ruling.meaning ruling.now).plain.target kind 0 0)) }
+    fn leaf(&mut self, kind: u8)
+        ensures onto { Onto self.old self.new }
+        ensures held { UnlessAll (searched self.old) self.new.order.items (Kind (searched self.old).kinds kind 0 → Seen self.new.seen ((searched self.old).target kind 0 0)) }
     {
-        if let Some(0) = ruling.rank(kind) {
-            self.visit(ruling, kind, 0, 0);
+        if let Some(0) = self.ruling.rank(kind) {
+            self.visit(kind, 0, 0);
         }
     }
 
-    fn leaves<R: Ruling>(&mut self, ruling: &R)
-        requires { Sound (R.Ruling.meaning ruling.now).plain self.old }
-        ensures onto { Onto (R.Ruling.meaning ruling.now).plain self.old self.new }
-        ensures held { UnlessAll (R.Ruling.meaning ruling.now).plain self.new (LeavesSeen (R.Ruling.meaning ruling.now).plain self.new.seen) }
+    fn leaves(&mut self)
+        ensures onto { Onto self.old self.new }
+        ensures held { UnlessAll (searched self.old) self.new.order.items (LeavesSeen (searched self.old) self.new.seen) }
     {
         for kind in 0..16u8 {
-            self.leaf(ruling, kind);
+            self.leaf(kind);
         }
     }
 
     // The states at i and j below a join, in both orders.
-    fn pair<R: Ruling>(&mut self, ruling: &R, kind: u8, i: u16, j: u16)
-        requires sound { Sound (R.Ruling.meaning ruling.now).plain self.old }
-        requires kind { Kind (R.Ruling.meaning ruling.now).plain.kinds kind 2 }
-        requires places { (i < self.old.count) × (j < self.old.count) }
-        ensures onto { Onto (R.Ruling.meaning ruling.now).plain self.old self.new }
-        ensures held { UnlessAll (R.Ruling.meaning ruling.now).plain self.new (BothSeen (R.Ruling.meaning ruling.now).plain self.old.order self.new.seen kind i j) }
+    fn pair(&mut self, kind: u8, i: usize, j: usize)
+        requires kind { Kind (searched self.old).kinds kind 2 }
+        requires places { (i < length self.old.order.items) × (j < length self.old.order.items) }
+        ensures onto { Onto self.old self.new }
+        ensures held { UnlessAll (searched self.old) self.new.order.items (BothSeen (searched self.old) self.old.order.items self.new.seen kind i j) }
     {
-        let p = self.order[i as usize];
-        let q = self.order[j as usize];
-        self.visit(ruling, kind, p, q);
+        let p = self.order[i];
+        let q = self.order[j];
+        self.visit(kind, p, q);
         if i != j {
-            self.visit(ruling, kind, q, p);
+            self.visit(kind, q, p);
         }
     }
 
-    fn forks<R: Ruling>(&mut self, ruling: &R, kind: u8, i: u16)
-        requires sound { Sound (R.Ruling.meaning ruling.now).plain self.old }
-        requires kind { Kind (R.Ruling.meaning ruling.now).plain.kinds kind 2 }
-        requires place { i < self.old.count }
-        ensures onto { Onto (R.Ruling.meaning ruling.now).plain self.old self.new }
-        ensures held { UnlessAll (R.Ruling.meaning ruling.now).plain self.new ((j : ℕ) → j < i + 1 → BothSeen (R.Ruling.meaning ruling.now).plain self.old.order self.new.seen kind i j) }
+    fn forks(&mut self, kind: u8, i: usize)
+        requires kind { Kind (searched self.old).kinds kind 2 }
+        requires place { i < length self.old.order.items }
+        ensures onto { Onto self.old self.new }
+        ensures held { UnlessAll (searched self.old) self.new.order.items ((j : ℕ) → j < i + 1 → BothSeen (searched self.old) self.old.order.items self.new.seen kind i j) }
     {
-        for j in 0..i + 1 {
-            if self.is_full(ruling) {
+        for j in 0..=i {
+            if self.is_full() {
                 return;
             }
-            self.pair(ruling, kind, i, j);
+            self.pair(kind, i, j);
         }
     }
 
     // The argument lists of a kind that are made of the state at i and earlier ones.
-    fn branch<R: Ruling>(&mut self, ruling: &R, kind: u8, i: u16)
-        requires sound { Sound (R.Ruling.meaning ruling.now).plain self.old }
-        requires place { i < self.old.count }
-        ensures onto { Onto (R.Ruling.meaning ruling.now).plain self.old self.new }
-        ensures held { UnlessAll (R.Ruling.meaning ruling.now).plain self.new (Visited (R.Ruling.meaning ruling.now).plain self.old.order self.new.seen kind i) }
+    fn branch(&mut self, kind: u8, i: usize)
+        requires { i < length self.old.order.items }
+        ensures onto { Onto self.old self.new }
+        ensures held { UnlessAll (searched self.old) self.new.order.items (Visited (searched self.old) self.old.order.items self.new.seen kind i) }
     {
-        match ruling.rank(kind) {
+        match self.ruling.rank(kind) {
             Some(1) => {
-                let p = self.order[i as usize];
-                self.visit(ruling, kind, p, 0);
+                let p = self.order[i];
+                self.visit(kind, p, 0);
             }
-            Some(2) => self.forks(ruling, kind, i),
+            Some(2) => self.forks(kind, i),
             _ => {}
         }
     }
 
-    fn meet<R: Ruling>(&mut self, ruling: &R, i: u16)
-        requires sound { Sound (R.Ruling.meaning ruling.now).plain self.old }
-        requires place { i < self.old.count }
-        ensures onto { Onto (R.Ruling.meaning ruling.now).plain self.old self.new }
-        ensures held { UnlessAll (R.Ruling.meaning ruling.now).plain self.new ((k : ℕ) → Visited (R.Ruling.meaning ruling.now).plain self.old.order self.new.seen k i) }
+    fn meet(&mut self, i: usize)
+        requires { i < length self.old.order.items }
+        ensures onto { Onto self.old self.new }
+        ensures held { UnlessAll (searched self.old) self.new.order.items ((k : ℕ) → Visited (searched self.old) self.old.order.items self.new.seen k i) }
     {
         for kind in 0..16u8 {
-            self.branch(ruling, kind, i);
+            self.branch(kind, i);
         }
     }
 }
 
 // Lists the reached states in the order of discovery. Each argument list is visited once, and no more once all states are found.
-pub(super) fn reached<R: Ruling>(ruling: &R) -> Search
+pub(super) fn reached<R: Ruling>(ruling: &R) -> ArrayVec<u16, 1089>
     requires { has_leaf (R.Ruling.meaning ruling.now).plain.kinds ≡ true }
-    ensures { Listed (R.Ruling.meaning ruling.now).plain result }
+    ensures { Listing (R.Ruling.meaning ruling.now).plain result.items }
 {
     let mut found = Search {
-        order: [0; 1089],
+        ruling,
+        order: ArrayVec::new(),
         seen: [false; 1089],
-        count: 0,
     };
-    found.leaves(ruling);
+    found.leaves();
     let mut i = 0;
-    while i < found.count && !found.is_full(ruling) {
-        found.meet(ruling, i);
+    // By place: the list grows while it is walked.
+    while i < found.order.len() && !found.is_full() {
+        found.meet(i);
         i += 1;
     }
-    found
+    found.order
 }

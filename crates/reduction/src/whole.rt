@@ -10,7 +10,7 @@ use super::watch::{Phase, Unwatched, Watch};
 use encoder::Table;
 use ruling::{Refusal, Ruling};
 
-const MOST_STATES: u16 = 32;
+const MOST_STATES: usize = 32;
 
 // The canonical table of the ruling's set; 12 with the number of states that the set needs, where that is above 32.
 // The watch is told as each part of the work ends.
@@ -20,14 +20,15 @@ pub fn reduce_watched<R: Ruling, W: Watch>(ruling: &R, watch: &mut W) -> Result<
 {
     let list = reached(ruling);
     watch.ended(Phase::Reached);
-    let partition = classes(ruling, &list);
+    let partition = classes(ruling, list.as_slice());
     watch.ended(Phase::Classes);
-    if partition.count > MOST_STATES {
-        return Err(Refusal::TooManyStates(partition.count as usize));
+    let count = partition.count();
+    if count > MOST_STATES {
+        return Err(Refusal::TooManyStates(count));
     }
     let numbering = Numbering::by_discovery(ruling, &partition);
     watch.ended(Phase::Numbering);
-    let table = numbering.table(ruling, &partition);
+    let table = numbering.table();
     watch.ended(Phase::Table);
     Ok(table)
 }

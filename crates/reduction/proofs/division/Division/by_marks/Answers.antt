@@ -1,33 +1,44 @@
-use Rattle.std.proofs.Common.{refl}
-use Rattle.reduction.proofs.Dividing.{listing_as, fewer_lives, whole_room, marks_lives, marks_classed}
-use Rattle.reduction.proofs.Splitting.{room_on}
+use Rattle.std.proofs.Common.{arith}
+use Rattle.reduction.proofs.Bounds.{reached_below}
+use Rattle.reduction.proofs.Dividing.{all_live, all_small, fewer_lives, marks_classed, marks_lives}
 use Rattle.reduction.proofs.division.Division.by_marks.Goals as goal
+
+pub keys_of-keys-requires-clause-small : goal.keys_of-keys-requires-clause-small
+keys_of-keys-requires-clause-small g c =
+    let w = g.R.Ruling.meaning c.args.ruling.now in
+    all_small w c.args.list.now (all_live w.plain c.args.list.now c.args.list.now c.requires).reached
+
+pub keys_of-keys-requires-clause-key_of : goal.keys_of-keys-requires-clause-key_of
+keys_of-keys-requires-clause-key_of g c k d h =
+    let w = g.R.Ruling.meaning c.args.ruling.now in
+    reached_below w _ ((all_live w.plain c.args.list.now c.args.list.now c.requires).reached k d h)
+
+pub whole-partition-requires : goal.whole-partition-requires
+whole-partition-requires g c =
+    let w = g.R.Ruling.meaning c.args.ruling.now in
+    omega (arith, reached_below w _ (c.requires.reached 0 c.requires.some), w.few)
 
 pub split-requires : goal.split-requires
 split-requires g c =
-    let list = listing_as _ _ _ _ _ c.all-live.ensures.0 c.all-live.ensures.1 c.requires in
-    record {
-      room = whole_room (g.R.Ruling.meaning c.args.ruling.now) _ _ _ _ _ list _ (c.requires.reached 0 c.requires.some) c.whole-partition.ensures;
-      parts = c.whole-partition.ensures.parts;
-      key = c.read_marks.auto.key;
-    }
-
-pub refresh-requires : goal.refresh-requires
-refresh-requires g c =
-    let list = listing_as _ _ _ _ _ c.all-live.ensures.0 c.all-live.ensures.1 c.requires in
-    record {
-      room = room_on _ _ _ _ _ _ _ _ _
-          (whole_room (g.R.Ruling.meaning c.args.ruling.now) _ _ _ _ _ list _ (c.requires.reached 0 c.requires.some) c.whole-partition.ensures) c.split.ensures.split;
-      parts = c.split.ensures.split.parts;
-      shared = refl;
-    }
-
-pub returns : goal.returns
-returns g c =
     let w = g.R.Ruling.meaning c.args.ruling.now in
-    let list = listing_as w.plain _ _ _ _ c.all-live.ensures.0 c.all-live.ensures.1 c.requires in
+    all_small w c.args.list.now (all_live w.plain c.args.list.now c.args.list.now c.requires).reached
+
+pub still_live-live-requires-clause-few : goal.still_live-live-requires-clause-few
+still_live-live-requires-clause-few g c = omega (arith, c.requires.few, (g.R.Ruling.meaning c.args.ruling.now).few)
+
+pub still_live-live-requires-clause-small : goal.still_live-live-requires-clause-small
+still_live-live-requires-clause-small g c =
+    let w = g.R.Ruling.meaning c.args.ruling.now in
+    all_small w c.args.list.now (all_live w.plain c.args.list.now c.args.list.now c.requires).reached
+
+pub invariant_of-result : goal.invariant_of-result
+invariant_of-result g c =
+    let w = g.R.Ruling.meaning c.args.ruling.now in
+    let all = all_live w.plain c.whole-partition.result.class c.args.list.now c.requires in
+    let hit = c.requires.reached 0 c.requires.some in
     record {
-      classed = marks_classed w _ _ _ _ _ list _ (c.requires.reached 0 c.requires.some) c.whole-partition.ensures _ _ _ _ c.read_marks.ensures c.split.ensures.split c.split.ensures.level;
-      lives = fewer_lives _ _ _ _ _ _ (marks_lives w _ _ _ _ _ list _ (c.requires.reached 0 c.requires.some) c.whole-partition.ensures _ _ _ _ c.read_marks.ensures c.split.ensures.split)
-          c.refresh.ensures;
+      sorted = ∣ record {
+        classed = marks_classed w.plain _ _ _ _ all hit c.whole-partition.ensures _ _ _ c.keys_of-keys.ensures c.split.ensures.split c.split.new.self.parts c.split.ensures.level;
+        lives = fewer_lives w.plain _ _ _ (marks_lives w.plain _ _ _ _ all hit c.whole-partition.ensures _ _ _ c.keys_of-keys.ensures c.split.ensures.split) c.still_live-live.ensures;
+      } ∣₁;
     }

@@ -1,28 +1,39 @@
-use Rattle.std.proofs.Common.{arith}
-use Rattle.reduction.proofs.Dividing.{few_classes, none_live, rest_all, resting_all, rests_at, turn_less, turn_next, turn_quiet, turn_rests}
+use Rattle.std.proofs.Common.{get_or, ◌∙◌, subst, sym, arith}
+use Rattle.std.proofs.lemmas.Bool.{eqb-true}
+use Rattle.reduction.specs.Dividing.{EvenUnder, Sorted}
+use Rattle.reduction.specs.Divisions.{RestsAt}
+use Rattle.reduction.proofs.Dividing.{known_none, known_rest, resting_all, turn_less, turn_quiet, turn_rests}
+use Rattle.reduction.proofs.Splitting.{few_parts}
 use Rattle.reduction.proofs.division.Division.settle.Goals as goal
 
 pub loop-self-smaller : goal.loop-self-smaller
-loop-self-smaller g c = turn_less _ _ _ _ _ _ c.if-quiet-list.true (omega (arith, c.requires.listed.few, (g.R.Ruling.meaning c.args.ruling.now).few))
-    (few_classes (g.R.Ruling.meaning c.args.ruling.now) _ _ _ c.meet_brother-divided.ensures.sorted.classed)
-    c.meet_brother-divided.ensures.more (λ e. (c.meet_brother-divided.ensures.rest e).count) c.quiet_after-quiet.ensures
+loop-self-smaller g c = turn_less _ _ _ _ _ _ c.if-quiet-list.true (omega (arith, c.requires.few, (g.R.Ruling.meaning c.args.self.now.ruling.now).few))
+    (few_parts _ _ c.meet_brother-divided.new.self.partition.parts) c.meet_brother-divided.ensures.more (λ e. (c.meet_brother-divided.ensures.rest e).count)
+    c.quiet_after-quiet.ensures
 
 pub loop-self-preserved : goal.loop-self-preserved
-loop-self-preserved g c = (
-  c.meet_brother-divided.ensures.sorted,
-  c.meet_brother-divided.ensures.even,
-  turn_rests _ _ _ _ _ _ _ _ _ _ _ _ c.loop-self.invariant.3 c.quiet_after-quiet.ensures c.next_in_circle-next.ensures
-      (λ e. let r = rests_at _ _ _ _ _ c.at.ensures (c.meet_brother-divided.ensures.rest e) in (r.same.0, r.same.1, r.rests)) c.loop-self.invariant.2,
-  turn_next _ _ _ c.loop-self.invariant.3 c.next_in_circle-next.ensures,
-  turn_quiet _ _ _ _ c.if-quiet-list.true c.quiet_after-quiet.ensures,
-)
+loop-self-preserved g c =
+    let old = c.loop-self.self.partition in
+    let new = c.meet_brother-divided.new.self.partition in
+    record {
+      same = c.meet_brother-divided.ensures.same ∙ c.loop-self.invariant.same;
+      even = subst (λ r. EvenUnder (g.R.Ruling.meaning r.now).plain new.class 16) c.loop-self.invariant.same c.meet_brother-divided.ensures.even;
+      rests = turn_rests _ _ _ _ _ _ _ _ _ _ _ c.loop-self.invariant.place c.quiet_after-quiet.ensures
+          (λ e. let rest = subst (λ r. RestsAt (g.R.Ruling.meaning r.now).plain old new (get_or c.args.list.now c.loop-self.next 0)) c.loop-self.invariant.same (c.meet_brother-divided.ensures.rest e) in
+          (rest.same.0, rest.same.1, rest.rests)) c.loop-self.invariant.rests;
+      place = omega arith;
+      few = turn_quiet _ _ _ _ c.if-quiet-list.true c.quiet_after-quiet.ensures;
+    }
 
-pub returns-else-quiet-list : goal.returns-else-quiet-list
-returns-else-quiet-list g c = record {
-  sorted = c.loop-self.invariant.0;
-  even = rest_all (g.R.Ruling.meaning c.args.ruling.now) _ _ _ _ _ c.requires.listed c.loop-self.invariant.0.classed c.loop-self.invariant.1
-      (resting_all _ _ _ _ _ _ _ c.loop-self.invariant.3 (omega arith) c.loop-self.invariant.2);
-}
+pub returns-else-quiet-list-clause-even : goal.returns-else-quiet-list-clause-even
+returns-else-quiet-list-clause-even g c =
+    let p = c.loop-self.self.partition in
+    known_rest (g.R.Ruling.meaning c.args.self.now.ruling.now) _ _ _ _ c.requires
+    (subst (λ r. ∥ Sorted (g.R.Ruling.meaning r.now).plain p.class p.leader.items c.loop-self.self.live.items ∥₁) c.loop-self.invariant.same c.loop-self.self.sorted)
+    c.loop-self.invariant.even (resting_all _ _ _ _ _ _ _ c.loop-self.invariant.place (omega arith) c.loop-self.invariant.rests)
 
-pub returns-after-loop-self : goal.returns-after-loop-self
-returns-after-loop-self g c = record { sorted = c.loop-self.invariant.0; even = none_live _ _ _ _ (omega arith) c.loop-self.invariant.0.lives }
+pub returns-after-loop-self-clause-even : goal.returns-after-loop-self-clause-even
+returns-after-loop-self-clause-even g c =
+    let p = c.loop-self.self.partition in
+    known_none (g.R.Ruling.meaning c.args.self.now.ruling.now).plain _ p.leader.items c.loop-self.self.live.items (eqb-true _ _ (sym c.is_empty.ensures ∙ c.loop-self-test.false))
+    (subst (λ r. ∥ Sorted (g.R.Ruling.meaning r.now).plain p.class p.leader.items c.loop-self.self.live.items ∥₁) c.loop-self.invariant.same c.loop-self.self.sorted)

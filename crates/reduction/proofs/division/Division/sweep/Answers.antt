@@ -1,36 +1,38 @@
-use Rattle.std.proofs.Common.{◌∙◌, arith}
-use Rattle.reduction.specs.Dividing.{class_key}
-use Rattle.reduction.proofs.Dividing.{room_of, keys_same, class_key_same, split_classed, split_lives, fewer_lives}
-use Rattle.reduction.proofs.Splitting.{room_on}
+use Rattle.std.proofs.Common.{◌<◌, All, sym, subst}
+use mathlib.Core.Logic.{∥∥₁_map}
+use Rattle.reduction.specs.Dividing.{Fewer, Split, Level}
+use Rattle.reduction.proofs.Dividing.{live_small, swept, swept_even}
 use Rattle.reduction.proofs.division.Division.sweep.Goals as goal
 
 pub split-requires : goal.split-requires
-split-requires g c = record {
-  room = room_of (g.R.Ruling.meaning c.args.ruling.now) _ _ _ _ _ c.requires.sorted.lives c.requires.sorted.classed.led;
-  parts = c.requires.sorted.classed.parts;
-  key = c.read_keys.auto.key ∙ omega arith;
-}
+split-requires g c = subst (All (λ s. s < 1089)) (sym c.deref.ensures.0) (live_small (g.R.Ruling.meaning c.args.self.now.ruling.now) _ _ _ c.args.self.now.sorted)
 
-pub refresh-requires : goal.refresh-requires
-refresh-requires g c = record {
-  room = room_on _ _ _ _ _ _ _ _ _ (room_of (g.R.Ruling.meaning c.args.ruling.now) _ _ _ _ _ c.requires.sorted.lives c.requires.sorted.classed.led) c.split.ensures.split;
-  parts = c.split.ensures.split.parts;
-  shared = omega arith;
-}
+pub still_live-self-requires-clause-small : goal.still_live-self-requires-clause-small
+still_live-self-requires-clause-small g c = subst (All (λ s. s < 1089)) (sym c.deref-then-count-before.ensures.0)
+    (live_small (g.R.Ruling.meaning c.args.self.now.ruling.now) _ _ _ c.args.self.now.sorted)
 
-pub returns-then-self-before : goal.returns-then-self-before
-returns-then-self-before g c =
-    let m = (g.R.Ruling.meaning c.args.ruling.now).plain in
-    let old = c.requires.sorted in
-    let keys = keys_same m (class_key m c.args.self.now.partition.class c.args.kind c.args.place c.args.brother) _ _ _ _ old.lives
-    (class_key_same m _ _ _ _ old.classed.coarse c.requires.context) c.read_keys.ensures in
+pub invariant_of-self-then-count-before : goal.invariant_of-self-then-count-before
+invariant_of-self-then-count-before g c =
+    let key = c.classes_ahead-key.result in
+    let class = c.args.self.now.partition.class in
+    let leader = c.args.self.now.partition.leader.items in
+    let after = c.split.new.self in
     record {
-      sorted = record {
-        classed = split_classed m _ _ _ _ _ _ _ _ _ old.lives old.classed.led old.classed.coarse keys c.split.ensures.split
-            (λ p q hp hq e. old.classed.marks p q hp hq (c.split.ensures.split.finer p q e));
-        lives = fewer_lives m _ _ _ _ _ (split_lives m _ _ _ _ _ _ _ _ _ old.lives old.classed.led old.classed.coarse keys c.split.ensures.split) c.refresh.ensures;
-      };
+      sorted = ∥∥₁_map c.args.self.now.sorted (swept (g.R.Ruling.meaning c.args.self.now.ruling.now).plain c.args.context class leader _ key _ _ c.requires c.classes_ahead-key.ensures
+          (subst (λ xs. Split xs key class leader after.class after.leader.items) c.deref.ensures.0 c.split.ensures.split) after.parts _
+          (subst (λ xs. Fewer xs after.class c.still_live-self.result.items) c.deref-then-count-before.ensures.0 c.still_live-self.ensures));
+    }
+
+pub returns-else-count-before-clause-finer : goal.returns-else-count-before-clause-finer
+returns-else-count-before-clause-finer g c =
+    let key = c.classes_ahead-key.result in
+    let class = c.args.self.now.partition.class in
+    let leader = c.args.self.now.partition.leader.items in
+    let after = c.split.new.self in
+    record {
       more = c.split.ensures.split.more;
-      still = λ e. absurd (omega arith);
-      holds = λ e. absurd (omega arith);
+      still = c.split.ensures.still;
+      holds = λ e. swept_even (g.R.Ruling.meaning c.args.self.now.ruling.now).plain c.args.context class leader _ key _ _ c.requires c.classes_ahead-key.ensures
+          (subst (λ xs. Split xs key class leader after.class after.leader.items) c.deref.ensures.0 c.split.ensures.split) (c.split.ensures.still e).0
+          (subst (λ xs. Level xs key after.class after.leader.items) c.deref.ensures.0 c.split.ensures.level) c.args.self.now.sorted;
     }

@@ -1,9 +1,12 @@
-use Rattle.std.proofs.Common.{◌-◌}
+use Rattle.std.proofs.Common.{◌≡◌, ◌-◌, length}
 use Rattle.reduction.specs.Divisions.{Finer}
 use Rattle.reduction.proofs.division.Division.under_all.Given as goal
 
-abbrev pub invariant-loop-self : goal.invariant-loop-self
-invariant-loop-self g l = Finer (g.R.Ruling.meaning l.ruling).plain l.initial.self l.self (λ class leader. Unit {0})
+abbrev pub invariant-loop-before : goal.invariant-loop-before
+invariant-loop-before g l = record {
+  same : l.self.ruling ≡ l.initial.self.ruling;
+  finer : Finer l.initial.self.partition l.self.partition (λ class leader. Unit {0});
+}
 
-abbrev pub decreases-loop-self : goal.decreases-loop-self
-decreases-loop-self g l = 1089 - l.self.partition.count
+abbrev pub decreases-loop-before : goal.decreases-loop-before
+decreases-loop-before g l = 1089 - length l.self.partition.leader.items

@@ -1,25 +1,24 @@
-use Rattle.std.proofs.Common.{ℕ, ◌<◌, refl, arith, below_more}
+use Rattle.std.proofs.Common.{◌<◌, refl, arith, below_more}
 use native.Mathlib.Decide.{dec_lt}
 use Rattle.reduction.specs.Searching.{Visited}
-use Rattle.reduction.proofs.Searching.{grown_on, visited_moved, visited_past}
+use Rattle.reduction.specs.Searches.{searched}
+use Rattle.reduction.proofs.Searching.{meaning_same, onto_on, visited_moved, visited_past}
 use Rattle.reduction.proofs.found.Search.meet.Goals as goal
 
 pub loop-kind-preserved : goal.loop-kind-preserved
-loop-kind-preserved g c = (
-  record { sound = c.branch-self.ensures.onto.sound; more = grown_on c.loop-kind.invariant.0.more c.branch-self.ensures.onto.more },
-  λ more. below_more _ _
-      (λ k h. visited_moved _ _ _ _ _ k _ (λ j l. refl) c.branch-self.ensures.onto.more.holds
-      (c.loop-kind.invariant.1 (omega (arith, c.branch-self.ensures.onto.more.more)) k h))
-      (visited_moved _ _ _ _ _ _ _ (λ j l. c.loop-kind.invariant.0.more.keeps j (omega (arith, c.requires.place))) (λ p x. x) (c.branch-self.ensures.held more)),
-)
+loop-kind-preserved g c =
+    let before = c.loop-kind.invariant.onto.further in
+    let after = c.branch-self.ensures.onto.further in
+    let held = rw (meaning_same before) at c.branch-self.ensures.held in record {
+      onto = onto_on c.loop-kind.invariant.onto c.branch-self.ensures.onto;
+      held = λ more. below_more _ _
+          (λ k h. visited_moved _ _ _ _ _ k _ (λ j l. refl) after.more.holds (c.loop-kind.invariant.held (omega (arith, after.more.more)) k h))
+          (visited_moved _ _ _ _ _ _ _ (λ j l. before.more.keeps j (omega (arith, c.requires))) (λ p x. x) (held more));
+    }
 
-pub returns : goal.returns
-returns g c = record {
-  onto = c.loop-kind.invariant.0;
-  held = λ more k. every k more (dec_lt k 16);
-}
+pub returns-clause-held : goal.returns-clause-held
+returns-clause-held g c more k = every (dec_lt k 16)
   where
-    every : (k : ℕ) → c.loop-kind.self.count < (g.R.Ruling.meaning c.args.ruling.now).plain.states → Dec (k < 16)
-        → Visited (g.R.Ruling.meaning c.args.ruling.now).plain c.args.self.now.order c.loop-kind.self.seen k c.args.i
-    every k more (yes h) = c.loop-kind.invariant.1 more k (omega arith)
-    every k more (no h) = visited_past (g.R.Ruling.meaning c.args.ruling.now) _ _ k _ (omega arith)
+    every : Dec (k < 16) → Visited (searched c.args.self.now) c.args.self.now.order.items c.loop-kind.self.seen k c.args.i
+    every (yes h) = c.loop-kind.invariant.held more k (omega arith)
+    every (no h) = visited_past (g.R.Ruling.meaning c.args.self.now.ruling.now) _ _ k _ (omega arith)

@@ -1,25 +1,10 @@
-use Rattle.std.proofs.Common.{refl}
-use Rattle.reduction.proofs.Bounds.{place_of, list_fits}
-use Rattle.reduction.proofs.Searching.{target_reached, found_more, grown_more, seen_at}
+use Rattle.std.proofs.Common.{arith}
+use Rattle.reduction.proofs.Bounds.{reached_below}
+use Rattle.reduction.proofs.Searching.{target_reached, found_more}
 use Rattle.reduction.proofs.found.Search.visit.Goals as goal
 
-pub target_of-t-requires : goal.target_of-t-requires
-target_of-t-requires g c = list_fits (g.R.Ruling.meaning c.args.ruling.now) _ _ _ c.requires.from
-
-pub bounds-self-t : goal.bounds-self-t
-bounds-self-t g c = place_of (g.R.Ruling.meaning c.args.ruling.now) _ _ refl (target_reached _ _ _ _ _ c.requires.from c.target_of-t.ensures)
-
-pub bounds-self-t-2 : goal.bounds-self-t-2
-bounds-self-t-2 g c = place_of (g.R.Ruling.meaning c.args.ruling.now) _ _ refl (target_reached _ _ _ _ _ c.requires.from c.target_of-t.ensures)
-
-pub returns : goal.returns
-returns g c =
-    let w = g.R.Ruling.meaning c.args.ruling.now in
-    let hit = target_reached w.plain _ _ _ _ c.requires.from c.target_of-t.ensures in
-    record {
-      onto = record {
-        sound = found_more w _ _ _ _ c.requires.sound hit c.if-self-t.false;
-        more = grown_more w _ _ _ _ c.requires.sound hit c.if-self-t.false;
-      };
-      held = λ rest. seen_at w _ _ _ _ c.requires.sound hit c.if-self-t.false _ c.target_of-t.ensures;
-    }
+pub returns-clause-sound : goal.returns-clause-sound
+returns-clause-sound g c from found =
+    let w = g.R.Ruling.meaning c.args.self.now.ruling.now in
+    let hit = target_reached w.plain _ _ _ _ from c.target_of-t.ensures in
+    rw c.push.ensures.items (found_more _ _ _ (omega (arith, reached_below w _ hit, w.few)) _ found hit c.if-self-t.false)

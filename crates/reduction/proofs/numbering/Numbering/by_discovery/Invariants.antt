@@ -1,9 +1,13 @@
-use Rattle.std.proofs.Common.{◌-◌}
+use Rattle.std.proofs.Common.{◌≡◌, ◌-◌, length}
 use Rattle.reduction.specs.Numberings.{NumberedBy}
 use Rattle.reduction.proofs.numbering.Numbering.by_discovery.Given as goal
 
-abbrev pub invariant-loop-kind : goal.invariant-loop-kind
-invariant-loop-kind g l = NumberedBy (g.R.Ruling.meaning l.ruling).plain l.partition l.numbering
+abbrev pub invariant-loop-list : goal.invariant-loop-list
+invariant-loop-list g l = record {
+  ruling : l.numbering.ruling.now ≡ l.ruling;
+  partition : l.numbering.partition.now ≡ l.partition;
+  numbered : NumberedBy l.numbering;
+}
 
-abbrev pub decreases-loop-kind : goal.decreases-loop-kind
-decreases-loop-kind g l = 32 - l.numbering.count
+abbrev pub decreases-loop-list : goal.decreases-loop-list
+decreases-loop-list g l = 32 - length l.numbering.rep.items

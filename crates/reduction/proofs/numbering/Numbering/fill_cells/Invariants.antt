@@ -3,4 +3,4 @@ use Rattle.reduction.specs.Filling.{Filling}
 use Rattle.reduction.proofs.numbering.Numbering.fill_cells.Given as goal
 
 abbrev pub invariant-loop-kind : goal.invariant-loop-kind
-invariant-loop-kind g l = Filling (meaning_by (g.R.Ruling.meaning l.ruling).plain l.partition l.self) l.cells l.kind 0 0
+invariant-loop-kind g l = Filling (meaning_by l.self) l.cells l.kind 0 0

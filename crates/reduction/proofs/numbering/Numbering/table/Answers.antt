@@ -4,30 +4,32 @@ use Rattle.reduction.proofs.numbering.Numbering.table.Goals as goal
 
 pub invariant_of-result : goal.invariant_of-result
 invariant_of-result g c =
-    let w = g.R.Ruling.meaning c.args.ruling.now in
-    let t = c.table_data-inner.result in
-    let copy = c.table_data-inner.ensures in
-    let dv = c.requires.classes in record {
+    let w = g.R.Ruling.meaning c.args.self.now.ruling.now in
+    let t = c.table_data.result in
+    let copy = c.table_data.ensures in
+    let dv = c.requires.numbered.classes in
+    let small = c.args.self.now.few in record {
       some = omega (arith, copy.count, w.list.0);
       few = omega (arith, copy.count, w.list.1);
-      counted = whole_counted w _ _ dv.classes dv.few _ _ _ c.requires.numbered c.requires.closed t (omega arith) copy;
-      ranked = whole_ranks w _ _ dv.classes dv.few _ _ _ c.requires.numbered c.requires.closed t (omega arith) copy;
-      leaf = whole_leaf w _ _ dv.classes dv.few _ _ _ c.requires.numbered c.requires.closed t (omega arith) copy c.requires.leaf;
-      filled = whole_some w _ _ dv.classes dv.few _ _ _ c.requires.numbered c.requires.closed t (omega arith) copy c.requires.leaf;
-      limited = omega (arith, copy.states, c.requires.numbered.small);
-      complete = whole_complete w _ _ dv.classes dv.few _ _ _ c.requires.numbered c.requires.closed t (omega arith) copy;
+      counted = whole_counted w _ _ dv c.args.self.now.classes _ _ small c.requires.numbered.numbered c.requires.closed t (omega arith) copy;
+      ranked = whole_ranks w _ _ dv c.args.self.now.classes _ _ small c.requires.numbered.numbered c.requires.closed t (omega arith) copy;
+      leaf = whole_leaf w _ _ dv c.args.self.now.classes _ _ small c.requires.numbered.numbered c.requires.closed t (omega arith) copy c.requires.leaf;
+      filled = whole_some w _ _ dv c.args.self.now.classes _ _ small c.requires.numbered.numbered c.requires.closed t (omega arith) copy c.requires.leaf;
+      limited = omega (arith, copy.states, small);
+      complete = whole_complete w _ _ dv c.args.self.now.classes _ _ small c.requires.numbered.numbered c.requires.closed t (omega arith) copy;
     }
 
 pub returns : goal.returns
 returns g c =
-    let w = g.R.Ruling.meaning c.args.ruling.now in
-    let t = c.table_data-inner.result in
-    let copy = c.table_data-inner.ensures in
-    let dv = c.requires.classes in
+    let w = g.R.Ruling.meaning c.args.self.now.ruling.now in
+    let t = c.table_data.result in
+    let copy = c.table_data.ensures in
+    let dv = c.requires.numbered.classes in
+    let small = c.args.self.now.few in
     record {
-      table = whole_table w _ _ dv.classes dv.few _ _ _ c.requires.numbered c.requires.closed t (omega arith) copy;
+      table = whole_table w _ _ dv c.args.self.now.classes _ _ small c.requires.numbered.numbered c.requires.closed t (omega arith) copy;
       clean = record {
-        copy = whole_clean w _ _ dv.classes dv.few _ _ _ c.requires.numbered c.requires.closed t (omega arith) copy;
+        copy = whole_clean w _ _ dv c.args.self.now.classes _ _ small c.requires.numbered.numbered c.requires.closed t (omega arith) copy;
         ranks_room = omega arith;
         marks_room = omega arith;
         cells_room = omega arith;

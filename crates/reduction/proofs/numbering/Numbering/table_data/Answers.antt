@@ -1,21 +1,17 @@
-use Rattle.std.proofs.Common.{false, length, refl, ap, ◌∙◌, arith}
+use Rattle.std.proofs.Common.{length, refl, ap, ◌∙◌, arith}
 use Rattle.reduction.specs.Numberings.{meaning_by}
 use Rattle.reduction.proofs.Bounds.{fresh}
 use Rattle.reduction.proofs.Cells.{place_parts}
 use Rattle.reduction.proofs.numbering.Numbering.table_data.Goals as goal
 
-pub fill_marks-requires : goal.fill_marks-requires
-fill_marks-requires g c = record { numbered = c.requires.numbered; room = refl; no = fresh 32 false }
-
 pub fill_cells-requires : goal.fill_cells-requires
-fill_cells-requires g c = record { classes = c.requires.classes; numbered = c.requires.numbered; room = refl; zeros = fresh 16384 0 }
+fill_cells-requires g c = record { room = refl; zeros = fresh 16384 0 }
 
 pub returns : goal.returns
 returns g c = record {
   count = c.len.ensures ∙ ap length c.kinds_of.ensures;
   ranks = c.ranks_of.ensures;
-  states = refl;
-  marks = c.fill_marks.ensures;
-  cells = λ k a b h p q. c.fill_cells.ensures _ (omega arith)
-      ∙ place_parts (meaning_by (g.R.Ruling.meaning c.args.ruling.now).plain c.args.partition.now c.args.self.now) k a b p q;
+  states = c.count.ensures;
+  marks = c.marks.ensures;
+  cells = λ k a b h p q. c.fill_cells.ensures _ (omega arith) ∙ place_parts (meaning_by c.args.self.now) k a b p q;
 }

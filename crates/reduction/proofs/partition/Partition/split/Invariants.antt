@@ -1,9 +1,8 @@
-use Rattle.std.proofs.Common.{◌≡◌}
-use Rattle.reduction.specs.Divisions.{RoomOf, SplitOf, Unchanged, LevelOf}
+use Rattle.std.proofs.Common.{◌≡◌, length, take}
+use Rattle.reduction.specs.Divisions.{SplitOf, Unchanged, LevelOf}
 use Rattle.reduction.proofs.partition.Partition.split.Given as goal
 
-abbrev pub invariant-loop-x : goal.invariant-loop-x
-invariant-loop-x l = SplitOf l.live l.key l.initial.self l.self
-    × (l.self.count ≡ l.initial.self.count → Unchanged l.initial.self l.self)
-    × LevelOf l.live l.x l.key l.self
-    × RoomOf l.live l.self
+abbrev pub invariant-loop-state : goal.invariant-loop-state
+invariant-loop-state l = SplitOf l.live l.key l.initial.self l.self
+    × (length l.self.leader.items ≡ length l.initial.self.leader.items → Unchanged l.initial.self l.self)
+    × LevelOf (take l.state-index l.live) l.key l.self
