@@ -1,8 +1,16 @@
-ghost use Rattle.std.specs.Prelude.{◌≡◌, ◌+◌, ◌<◌, ◌≤◌, ◌∷◌, length, OnOk, slice_set};
+ghost use Rattle.std.specs.Prelude.{◌≡◌, ◌+◌, ◌-◌, ◌<◌, ◌≤◌, ◌∷◌, length, IfNone, IfSome, OnOk, slice_index_or, slice_set};
 ghost use Rattle.ruling.specs.Checks.{Answers, Kept};
 ghost use Rattle.stack.specs.Stacks.{live, full_fault, Popped};
 
 use ruling::Refusal;
+
+// Writes a value into one slot.
+fn put<V: Copy>(slots: &mut [V], at: usize, value: V)
+    requires { at < length slots.old }
+    ensures { slots.new ≡ slice_set slots.old at value }
+{
+    slots[at] = value;
+}
 
 // A stack of values in slots that the caller lends; the first `len` slots hold the values, the top last.
 #[derive(Drop)]
@@ -31,9 +39,17 @@ impl<'a, V: Copy> Stack<'a, V> {
         if self.len == self.slots.len() {
             return Err(Refusal::BufferTooShort(self.len.saturating_add(1)));
         }
-        self.slots[self.len] = value;
+        put(self.slots, self.len, value);
         self.len += 1;
         Ok(())
+    }
+
+    // The top value; none where the stack is empty.
+    fn top(&self) -> Option<V>
+        ensures none { IfNone result (self.now.len ≡ 0) }
+        ensures value { IfSome result (λ v. (0 < self.now.len) × (slice_index_or self.now.slots.now (self.now.len - 1) v ≡ v)) }
+    {
+        self.slots[..self.len].last().copied()
     }
 
     // Takes the top value off; none where the stack is empty.
@@ -41,10 +57,8 @@ impl<'a, V: Copy> Stack<'a, V> {
         ensures answer { Popped (live self.old.len self.old.slots.now) (live self.new.len self.new.slots.now) result }
         ensures slots { self.new.slots.now ≡ self.old.slots.now }
     {
-        if self.len == 0 {
-            return None;
-        }
+        let value = self.top()?;
         self.len -= 1;
-        Some(self.slots[self.len])
+        Some(value)
     }
 }
