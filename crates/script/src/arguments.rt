@@ -106,10 +106,7 @@ pub(super) fn bytes_and_room(
 ) -> Result<Option<(Vec<u8>, u32)>, AllocError>
     ensures { IfOk result (λ o. option_map (λ p. (p.0.items, p.1)) o ≡ bytes_and_room (words_left words.entry)) }
 {
-    let Some(word) = words.next() else {
-        return Ok(None);
-    };
-    let Some(room) = room_of(words) else {
+    let (Some(word), Some(room)) = (words.next(), room_of(words)) else {
         return Ok(None);
     };
     Ok(bytes_of(heap, word)?.map(|bytes| (bytes, room)))
