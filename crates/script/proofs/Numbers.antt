@@ -1,5 +1,5 @@
 -- Numbers and bytes, digit by digit.
-use Rattle.std.proofs.Common.{◌≡◌, ◌≢◌, ℕ, ◌+◌, ◌*◌, ◌<◌, ◌≤◌, min, Bool, true, cond, List, [], ◌∷◌, ◌++◌, length, get_or, drop, Some, None, Option, sym, refl, ap, ◌∙◌, append_assoc, inl, inr, arith}
+use Rattle.std.proofs.Common.{◌≡◌, ℕ, ◌+◌, ◌*◌, ◌<◌, ◌≤◌, min, Bool, true, cond, List, [], ◌∷◌, ◌++◌, length, get_or, drop, Some, None, Option, sym, refl, ap, ◌∙◌, append_assoc, inl, inr, arith}
 use Rattle.std.proofs.lemmas.Bool.{cases_lt}
 use native.Mathlib.Nat.{min-eq_left, min-eq_right}
 use Rattle.std.specs.Char.{digit_value, IsDigitOf, NotDecimalDigitIn}
@@ -70,15 +70,10 @@ pub onto_more : (xs : List ℕ) (b : ℕ) (o : Option (List ℕ)) → onto xs (g
 onto_more xs b None = refl
 onto_more xs b (Some ys) = ap (λ (zs : List ℕ). Some zs) (sym (append_assoc xs (b ∷ []) ys))
 
--- a pair of digits more, or half a pair
+-- a pair of digits more
 pub pair_more : (left pair rest : List ℕ) → left ≡ pair ++ rest → length pair ≡ 2
     → hex_bytes left ≡ given (hex_byte (get_or pair 0 0) (get_or pair 1 0)) (λ b. given (hex_bytes rest) (λ bs. Some (b ∷ bs)))
 pair_more left [] rest e l = absurd (omega arith)
 pair_more left (h ∷ []) rest e l = absurd (omega arith)
 pair_more left (h ∷ (k ∷ [])) rest e l = ap hex_bytes e
 pair_more left (h ∷ (k ∷ (x ∷ xs))) rest e l = absurd (omega arith)
-
-pub half_pair : (left pair : List ℕ) → length pair ≡ min 2 (length left) → 0 < length left → length pair ≢ 2 → hex_bytes left ≡ None
-half_pair [] pair e l n = absurd (omega arith)
-half_pair (h ∷ []) pair e l n = refl
-half_pair (h ∷ (k ∷ cs)) pair e l n = absurd (n (omega arith))

@@ -7,7 +7,7 @@ pub enum Answer {
     Kept(u16),
     // yes or no
     Verdict(bool),
-    // the size of a record
+    // the size of a record, by its two numbers: this crate knows no walk and not its type for sizes
     Measured { nodes: u64, height: u64 },
     // a number of states, a rank or a target
     Number(u16),

@@ -62,14 +62,13 @@ fn bytes_of(heap: Global, word: &[u8]) -> Result<Option<Vec<u8>>, AllocError>
 pub(super) fn one_number(mut words: Words<'_>) -> Option<u32>
     ensures { result ≡ one_number (words_left words.entry) }
 {
-    let word = words.next()?;
-    match words.next() {
-        None => number(word),
-        Some(_) => None,
+    match (words.next(), words.next()) {
+        (Some(word), None) => number(word),
+        _ => None,
     }
 }
 
-// The three numbers that are left.
+// The three numbers that are left. No struct: the one caller takes them apart at once.
 pub(super) fn three_numbers(mut words: Words<'_>) -> Option<(u32, u32, u32)>
     ensures { result ≡ three_numbers (words_left words.entry) }
 {
@@ -100,17 +99,14 @@ pub(super) fn one_bytes(heap: Global, mut words: Words<'_>) -> Result<Option<Vec
     }
 }
 
-// The bytes that are left, and the length of a lent stack.
+// The bytes that are left, and the length of a lent stack. No struct: each caller takes them apart at once.
 pub(super) fn bytes_and_room(
     heap: Global,
     mut words: Words<'_>,
 ) -> Result<Option<(Vec<u8>, u32)>, AllocError>
     ensures { IfOk result (λ o. option_map (λ p. (p.0.items, p.1)) o ≡ bytes_and_room (words_left words.entry)) }
 {
-    let Some(word) = words.next() else {
-        return Ok(None);
-    };
-    let Some(room) = room_of(words) else {
+    let (Some(word), Some(room)) = (words.next(), room_of(words)) else {
         return Ok(None);
     };
     Ok(bytes_of(heap, word)?.map(|bytes| (bytes, room)))

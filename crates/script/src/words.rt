@@ -1,6 +1,6 @@
 ghost use Rattle.std.specs.Prelude.{◌≡◌};
 ghost use Rattle.std.specs.List.{position};
-ghost use Rattle.script.specs.Words.{is_blank, not_blank, ends_word, words_of};
+ghost use Rattle.script.specs.Words.{is_blank, not_blank, ends_word};
 
 fn is_blank(c: u8) -> bool
     ensures { result ≡ is_blank c }
@@ -29,14 +29,14 @@ fn word_end(text: &[u8]) -> Option<usize>
 }
 
 // The words of a line that are still to come.
-#[derive(Clone, Copy)]
+#[derive(Debug, Drop)]
 pub(super) struct Words<'a> {
     rest: &'a [u8],
 }
 
 impl<'a> Words<'a> {
     pub(super) fn of(line: &'a [u8]) -> Words<'a>
-        ensures { words_of result.rest.now ≡ words_of line.now }
+        ensures { result.rest.now ≡ line.now }
     {
         Words { rest: line }
     }
