@@ -11,6 +11,7 @@ impl From<u32> for Draws {
 }
 
 impl Draws {
+    // A method, and no iterator: there is always a next draw.
     pub(super) fn draw(&mut self) -> u16 {
         self.x = self.x.wrapping_mul(69069).wrapping_add(1);
         (self.x >> 16) as u16
