@@ -1,22 +1,15 @@
 ghost use Rattle.std.specs.Prelude.{◌≡◌, ℕ, ◌/◌, ◌%◌, ◌<◌, ◌≤◌, false, is_some, IfSome, slice_index, slice_index_or};
 ghost use Rattle.std.specs.Option.{unwrap_or};
-ghost use Rattle.ruling.specs.Questions.{rank_in, targeted, marked};
+ghost use Rattle.ruling.specs.Questions.{targeted, marked};
 ghost use Rattle.encoder.specs.Tables.{table_meaning, Equal, tabled, CopyOf};
 
 use super::places::cell_parts;
 use super::table_data::TableData;
 use super::table_in_memory::Table;
-use ruling::{Ruling, check_leaf_kind, kinds_of};
+use ruling::{Ruling, check_leaf_kind, kinds_of, ranks_of};
 use std::array;
 
 const MOST_STATES: u16 = 32;
-
-// The ranks of the kinds, and 0 where there is no kind.
-pub fn ranks_of<R: Ruling>(ruling: &R) -> [u8; 16]
-    ensures { (k : ℕ) → k < 16 → slice_index result k ≡ unwrap_or (rank_in (R.Ruling.meaning ruling.now).plain.kinds k) 0 }
-{
-    array::from_fn(|kind| ruling.rank(kind as u8).unwrap_or(0))
-}
 
 // The marks of the states, and no where there is no state.
 fn marks_of<R: Ruling>(ruling: &R) -> [bool; 32]

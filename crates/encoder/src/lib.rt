@@ -10,8 +10,9 @@ mod table_data;
 mod table_in_memory;
 mod write_parts;
 
-pub use copy::ranks_of;
 pub use encoding::{encode, encoded_len};
 pub use places::place_of_cell;
 pub use table_data::TableData;
 pub use table_in_memory::Table;
+
+pub use ruling::ranks_of;
