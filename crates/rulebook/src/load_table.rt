@@ -5,7 +5,7 @@ ghost use Rattle.rulebook.specs.Changes.{meaning_of, LoadOf};
 
 use super::rulebook::Rulebook;
 use ruling::Refusal;
-use table::{FlatTable, check_table};
+use table::FlatTable;
 
 impl Rulebook {
     // Replaces the set by that of a table file, and answers the number of states: the file's faults, then 7, then 12.
@@ -13,7 +13,7 @@ impl Rulebook {
         ensures stands { (c : Made) → LoadOf bytes.now c → Follows (meaning_of self.old) c (answered count result) (meaning_of self.new) }
         ensures kept { Kept result self.old self.new }
     {
-        let states = check_table(bytes)?;
-        self.load(&FlatTable::make(bytes, states))
+        let file = FlatTable::read(bytes)?;
+        self.load(&file)
     }
 }
