@@ -8,7 +8,7 @@ use ruling::Refusal;
 use samples::{Arithmetic, Sample, open};
 use std::process::Abort;
 use std::test::Fail;
-use table::{FlatTable, check_table};
+use table::FlatTable;
 
 // The table is written as this file.
 fn writes(rt: &impl Abort, table: &Table, file: &[u8]) -> Result<(), Fail> {
@@ -26,8 +26,7 @@ fn no_road(rt: HostRuntime) -> Result<(), Fail> {
 
 // The table of the set of a table file.
 fn reduce_file(file: &[u8]) -> Result<Table, Refusal> {
-    let states = check_table(file)?;
-    reduce(&FlatTable::make(file, states))
+    reduce(&FlatTable::read(file)?)
 }
 
 // The file is reduced to the other, and the other stays as it is.

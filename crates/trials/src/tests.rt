@@ -45,16 +45,12 @@ fn opening(rt: HostRuntime) {
 
 #[test]
 fn places(rt: HostRuntime) -> Result<(), Fail> {
-    check_ranks(&RANKS)?;
-    let kinds = Kinds::make(&RANKS);
-    check_record(&kinds, &NESTED, MAX_NODES)?;
-    let record = Record::make(&NESTED, kinds);
-    assert!(rt; record.find_child(1).is_none());
-    let span = record.find_child(0).ok_or("a sign has a child")?;
-    let join = record.child(0, span);
+    let kinds = Kinds::try_from(RANKS.as_slice())?;
+    let record = Record::read(&NESTED, kinds)?;
+    assert!(rt; record.nth_child(1).is_none());
+    let join = record.nth_child(0).ok_or("a sign has a child")?;
     assert!(rt; join.place() == 0 && join.len() == 6);
-    let span = join.find_child(1).ok_or("a join has two children")?;
-    let inner = join.child(1, span);
+    let inner = join.nth_child(1).ok_or("a join has two children")?;
     assert!(rt; inner.place() == 2 && inner.len() == 3);
     let span = inner.find_child(1).ok_or("a join has two children")?;
     let path = inner.child(1, span);
