@@ -21,7 +21,8 @@ use Rattle.ruling.proofs.Rows.{mark_told}
 use Rattle.reduction.specs.declared.context.Context.{Context}
 use Rattle.reduction.specs.declared.context.Context.TheVariants.{Under, Left, Right}
 use Rattle.reduction.specs.Searching as searching
-use Rattle.reduction.specs.declared.partition.Partition.{Partition}
+use Rattle.ruling.specs.declared.ruling.Ruling.{Ghosts}
+use Rattle.reduction.specs.declared.division.Division.{Division}
 use Rattle.reduction.specs.Searching.{Listing}
 use Rattle.reduction.specs.Dividing.{IsContext, stepped, Parts, Coarse, Classed, Alone, Lives, Sorted, Keys, class_key, mark_key, LevelAt, Level, Split, Fewer, Even, EvenUnder, EvenBoth, EvenBeside, AllEven, Resting, Whole}
 use Rattle.reduction.specs.Divisions.{Finer}
@@ -314,26 +315,30 @@ resting_all m order n class leader quiet next h g rests j l = go (dec_lt j next)
     go (no d) = rests j l (inr (omega arith, omega arith))
 
 -- Steps that divide, one after the other.
-pub finer_none : (p : Partition) (P : List ℕ → List ℕ → Type 0) → P p.class p.leader.items → Finer p p P
-finer_none p P h = record { more = omega arith; still = λ e. (refl, refl); holds = λ e. h }
+module _ {R : Type 0} {G : Ghosts R} where
+  pub finer_none : (d : Division R G) (P : List ℕ → List ℕ → Type 0) → P d.partition.class d.partition.leader.items → Finer d d P
+  finer_none d P h = record { same = refl; more = omega arith; still = λ e. (refl, refl); holds = λ e. h }
 
-pub finer_as : (p q : Partition) (P Q : List ℕ → List ℕ → Type 0) → (P q.class q.leader.items → Q q.class q.leader.items) → Finer p q P → Finer p q Q
-finer_as p q P Q to f = record { more = f.more; still = f.still; holds = λ z. to (f.holds z) }
+  pub finer_as : (d e : Division R G) (P Q : List ℕ → List ℕ → Type 0)
+      → (P e.partition.class e.partition.leader.items → Q e.partition.class e.partition.leader.items) → Finer d e P → Finer d e Q
+  finer_as d e P Q to f = record { same = f.same; more = f.more; still = f.still; holds = λ z. to (f.holds z) }
 
-pub finer_on : (p q r : Partition) (P Q S : List ℕ → List ℕ → Type 0) → (P r.class r.leader.items → Q r.class r.leader.items → S r.class r.leader.items)
-    → Finer p q P → Finer q r Q → Finer p r S
-finer_on p q r P Q S to x y = record {
-  more = omega (arith, x.more, y.more);
-  still = λ z. let v = y.still (late z) in let u = x.still (soon z) in (v.0 ∙ u.0, v.1 ∙ u.1);
-  holds = λ z. let v = y.still (late z) in
-      to (subst (λ l. P r.class l) (sym v.1) (subst (λ k. P k q.leader.items) (sym v.0) (x.holds (soon z)))) (y.holds (late z));
-}
-  where
-    soon : length r.leader.items ≡ length p.leader.items → length q.leader.items ≡ length p.leader.items
-    soon z = omega (arith, x.more, y.more)
+  pub finer_on : (d e f : Division R G) (P Q S : List ℕ → List ℕ → Type 0)
+      → (P f.partition.class f.partition.leader.items → Q f.partition.class f.partition.leader.items → S f.partition.class f.partition.leader.items)
+      → Finer d e P → Finer e f Q → Finer d f S
+  finer_on d e f P Q S to x y = record {
+    same = y.same ∙ x.same;
+    more = omega (arith, x.more, y.more);
+    still = λ z. let v = y.still (late z) in let u = x.still (soon z) in (v.0 ∙ u.0, v.1 ∙ u.1);
+    holds = λ z. let v = y.still (late z) in
+        to (subst (λ l. P f.partition.class l) (sym v.1) (subst (λ k. P k e.partition.leader.items) (sym v.0) (x.holds (soon z)))) (y.holds (late z));
+  }
+    where
+      soon : length f.partition.leader.items ≡ length d.partition.leader.items → length e.partition.leader.items ≡ length d.partition.leader.items
+      soon z = omega (arith, x.more, y.more)
 
-    late : length r.leader.items ≡ length p.leader.items → length r.leader.items ≡ length q.leader.items
-    late z = omega (arith, x.more, y.more)
+      late : length f.partition.leader.items ≡ length d.partition.leader.items → length f.partition.leader.items ≡ length e.partition.leader.items
+      late z = omega (arith, x.more, y.more)
 
 -- What a sweep leaves: sound classes, which are even where nothing was divided.
 module _ (m : Meaning) (x : Context) (class leader live key class' leader' : List ℕ) (at : IsContext m x)
