@@ -13,10 +13,6 @@ use Rattle.reduction.specs.Searching as searching
 pub reached_below : (w : Ruled) (p : ℕ) → Reached w.plain.kinds w.plain p → p < w.plain.states
 reached_below w p h = subst (λ x. x < w.plain.states) h.runs (run_below w.plain.kinds w.plain w.complete h.tree h.over)
 
--- Below the length of what has a place for each state.
-pub place_of : (w : Ruled) (n t : ℕ) → n ≡ 1089 → Reached w.plain.kinds w.plain t → t < n
-place_of w n t e h = omega (arith, reached_below w t h, w.few)
-
 pub list_fits : (w : Ruled) (k a b : ℕ) → searching.ReachedList w.plain k a b → Fits w.plain.kinds w.plain.states k a b
 list_fits w k a b (searching.none kind x y) = none kind x y
 list_fits w k a b (searching.one kind x y) = one kind (reached_below w a x) y

@@ -5,7 +5,6 @@ use mathlib.Core.Logic.{∥∥₁_elim, ∥∥₁_map}
 use native.Mathlib.Decide.{ℕ_discrete, dec_lt}
 use native.Mathlib.Nat.{ℕ_set}
 use Rattle.std.proofs.Math.Bridge.{le_prop}
-use Rattle.std.proofs.lemmas.Bool.{eq-eqb}
 use Rattle.std.proofs.lemmas.List.Elements.{All-cons, All-contains, All-from_get_or, All-nil, Contains-get_or}
 use Rattle.std.proofs.Math.Nat.{mod_self, mod-eq_of_lt}
 use Rattle.ruling.specs.Trees.{Kind}
@@ -21,12 +20,9 @@ use Rattle.ruling.proofs.Rows.{mark_told}
 use Rattle.reduction.specs.declared.context.Context.{Context}
 use Rattle.reduction.specs.declared.context.Context.TheVariants.{Under, Left, Right}
 use Rattle.reduction.specs.Searching as searching
-use Rattle.reduction.specs.declared.partition.Partition.{Partition}
 use Rattle.reduction.specs.Searching.{Listing}
-use Rattle.reduction.specs.Dividing.{IsContext, stepped, Parts, Coarse, Classed, Alone, Lives, Sorted, Keys, class_key, mark_key, LevelAt, Level, Split, Fewer, Even, EvenUnder, EvenBoth, EvenBeside, AllEven, Resting, Whole}
-use Rattle.reduction.specs.Divisions.{Finer}
+use Rattle.reduction.specs.Dividing.{IsContext, stepped, Parts, Coarse, Classed, Alone, Lives, Sorted, Keys, class_key, mark_key, LevelAt, Level, Split, Fewer, Even, EvenUnder, EvenBeside, AllEven, Resting, Whole}
 use Rattle.reduction.proofs.Bounds.{reached_below, list_reached}
-use Rattle.reduction.proofs.Searching.{true_false}
 
 pub stepped_list : (m : Meaning) (x : Context) (p : ℕ) → IsContext m x → Reached m.kinds m p → Reached m.kinds m (stepped m x p)
 stepped_list m (Under k) p at h = list_reached m k p 0 (searching.one at h refl)
@@ -183,10 +179,6 @@ none_live m class live z lives x at p q hp hq e = go (lives.others p hp)
     go (inl h) = absurd (omega (arith, h.1))
     go (inr h) = ap (λ y. get_or class (stepped m x y) 0) (sym (h q hq (sym e)))
 
--- One class alone leads nowhere else.
-pub one_class : (m : Meaning) (class leader : List ℕ) → length leader ≤ 1 → Parts class leader → AllEven m class
-one_class m class leader few parts x at p q hp hq e = omega (arith, parts.small (stepped m x p), parts.small (stepped m x q))
-
 module _ (m : Meaning) (class leader : List ℕ) (k : Classed m class leader) (even : AllEven m class) where
   around_class : (p q : ℕ) → Reached m.kinds m p → Reached m.kinds m q → get_or class p 0 ≡ get_or class q 0
       → (s : Surrounding) → SurroundingOver m.kinds s → get_or class (around m s p) 0 ≡ get_or class (around m s q) 0
@@ -313,28 +305,6 @@ resting_all m order n class leader quiet next h g rests j l = go (dec_lt j next)
     go (yes d) = rests j l (inl (d, omega arith))
     go (no d) = rests j l (inr (omega arith, omega arith))
 
--- Steps that divide, one after the other.
-pub finer_none : (p : Partition) (P : List ℕ → List ℕ → Type 0) → P p.class p.leader.items → Finer p p P
-finer_none p P h = record { more = omega arith; still = λ e. (refl, refl); holds = λ e. h }
-
-pub finer_as : (p q : Partition) (P Q : List ℕ → List ℕ → Type 0) → (P q.class q.leader.items → Q q.class q.leader.items) → Finer p q P → Finer p q Q
-finer_as p q P Q to f = record { more = f.more; still = f.still; holds = λ z. to (f.holds z) }
-
-pub finer_on : (p q r : Partition) (P Q S : List ℕ → List ℕ → Type 0) → (P r.class r.leader.items → Q r.class r.leader.items → S r.class r.leader.items)
-    → Finer p q P → Finer q r Q → Finer p r S
-finer_on p q r P Q S to x y = record {
-  more = omega (arith, x.more, y.more);
-  still = λ z. let v = y.still (late z) in let u = x.still (soon z) in (v.0 ∙ u.0, v.1 ∙ u.1);
-  holds = λ z. let v = y.still (late z) in
-      to (subst (λ l. P r.class l) (sym v.1) (subst (λ k. P k q.leader.items) (sym v.0) (x.holds (soon z)))) (y.holds (late z));
-}
-  where
-    soon : length r.leader.items ≡ length p.leader.items → length q.leader.items ≡ length p.leader.items
-    soon z = omega (arith, x.more, y.more)
-
-    late : length r.leader.items ≡ length p.leader.items → length r.leader.items ≡ length q.leader.items
-    late z = omega (arith, x.more, y.more)
-
 -- What a sweep leaves: sound classes, which are even where nothing was divided.
 module _ (m : Meaning) (x : Context) (class leader live key class' leader' : List ℕ) (at : IsContext m x)
     (keys : Keys (class_key m class x) live key) (split : Split live key class leader class' leader') where
@@ -355,10 +325,6 @@ module _ (m : Meaning) (x : Context) (class leader live key class' leader' : Lis
   swept_even same level sorted p q hp hq e = known_equal sorted
       (λ z. subst (λ k. get_or k (stepped m x p) 0 ≡ get_or k (stepped m x q) 0) (sym same)
       (level_equal m (class_key m class x) class' leader' live key (swept_lives z) level keys p q hp hq e))
-
--- A brother that does not lead its class has one side only.
-pub both_one : (m : Meaning) (class leader : List ℕ) (k r : ℕ) → false ≡ eqb (get_or leader (get_or class r 0) 0) r → Even m class (Left k r) → EvenBoth m class leader k r
-both_one m class leader k r e h = (h, λ f. absurd (true_false _ (eq-eqb _ _ f) (sym e)))
 
 -- Nothing was divided, so what rested rests still.
 pub resting_as : (m : Meaning) (order : List ℕ) (n : ℕ) (class leader class' leader' : List ℕ) (quiet next : ℕ) → class' ≡ class → leader' ≡ leader

@@ -113,10 +113,7 @@ module _ (key class leader : List ℕ) (s : ℕ) (parts : Parts class leader) (s
     joins : (p : ℕ) → get_or key p 0 ≡ get_or key s 0 → get_or class' p 0 ≡ length leader → LevelAt key class' (leader ++ s ∷ []) p
     joins p e f = e ∙ ap (λ z. get_or key z 0) (sym (ap (λ z. get_or (leader ++ s ∷ []) z 0) f ∙ last))
 
-    -- The state has its own key, and whoever had the key of its class's leader has it still.
-    level_here : LevelAt key class' (leader ++ s ∷ []) s
-    level_here = joins s refl (moves s hit refl refl)
-
+    -- Whoever had the key of its class's leader has it still.
     level_kept : (p : ℕ) → LevelAt key class leader p → LevelAt key class' (leader ++ s ∷ []) p
     level_kept p level = go (gone.only p)
       where
@@ -140,20 +137,8 @@ module _ (key class leader live : List ℕ) (s n : ℕ) (class' leader' : List �
   pub after_split : Split live key class leader class' leader'
   after_split = subst (Split live key class leader class') (sym grown) (divided key class leader s parts small odd live hit class' moved)
 
-  pub after_level : LevelAt key class' leader' s
-  after_level = subst (λ l. LevelAt key class' l s) (sym grown) (level_here key class leader s parts small odd live hit class' moved)
-
   pub after_kept : (p : ℕ) → LevelAt key class leader p → LevelAt key class' leader' p
   after_kept p level = subst (λ l. LevelAt key class' l p) (sym grown) (level_kept key class leader s parts small odd live hit class' moved p level)
-
-pub split_none : (live key class leader : List ℕ) → Split live key class leader class leader
-split_none live key class leader = record {
-  more = omega arith;
-  finer = λ p q e. e;
-  together = λ p q i j e f. e;
-  stay = λ j h. refl;
-  new = λ j h g. absurd (omega arith);
-}
 
 pub split_on : (live key a l a' l' a'' l'' : List ℕ) → Split live key a l a' l' → Split live key a' l' a'' l'' → Split live key a l a'' l''
 split_on live key a l a' l' a'' l'' s t = record {

@@ -12,7 +12,10 @@ use Rattle.encoder.specs.declared.table_data.TableData.{TableData}
 use Rattle.encoder.specs.Tables.{kinds_held, table_meaning, CopyOf}
 use Rattle.encoder.proofs.Copies.{held_kinds, held_count, held_mark, held_target, clean}
 use Rattle.reduction.specs.Searching as searching
-use Rattle.reduction.specs.Numbering.{aimed, number_of, Source, Numbered, Opened, numbered_meaning}
+use Rattle.ruling.specs.declared.ruling.Ruling.{Ghosts}
+use Rattle.reduction.specs.declared.numbering.Numbering.{Numbering}
+use Rattle.reduction.specs.Numbering.{aimed, number_of, Source, Numbered, Opened}
+use Rattle.reduction.specs.Numberings.{NumberedBy, OpenedBy, meaning_by}
 use Rattle.reduction.proofs.Bounds.{list_reached}
 use Rattle.reduction.proofs.Searching.{leaf_kind}
 use Rattle.reduction.proofs.Numbers.{aimed_0, aimed_1, aimed_2, aimed_reached, fits_up}
@@ -79,22 +82,24 @@ module _ (w : Ruled) (class : List ℕ) (count : ℕ) (dv : Classes w.plain.kind
   made_table = (table_of_each w.plain c).0 (made_reduced, fold_agrees w.plain c (λ i. get_or rep i 0) kinds folds)
 
 -- The table that holds the numbered classes is the table of the ruling.
-module _ (w : Ruled) (class : List ℕ) (count : ℕ) (dv : Classes w.plain.kinds w.plain count (λ p. get_or class p 0)) (few : count ≤ 32)
-    (rep : List ℕ) (number : List (Option ℕ)) (small : length rep ≤ 32) (num : Numbered w.plain class rep number) (closed : Opened w.plain class rep number None)
-    (t : TableData) (long : length t.ranks ≡ 16) (copy : CopyOf (numbered_meaning w.plain class rep number) t) where
+module _ {R : Type 0} {G : Ghosts R} (n : Numbering R G) (num : NumberedBy n) (closed : OpenedBy n None)
+    (t : TableData) (long : length t.ranks ≡ 16) (copy : CopyOf (meaning_by n) t) where
+  abbrev w : Ruled
+  w = G.meaning n.ruling.now
+
   kinds : kinds_held t ≡ w.plain.kinds
-  kinds = held_kinds (numbered_meaning w.plain class rep number) t w.list.1 small long copy
+  kinds = held_kinds (meaning_by n) t w.list.1 n.few long copy
 
   pub whole_table : TableOf w.plain.kinds w.plain (table_meaning t)
-  whole_table = made_table w class count dv few rep number small num closed (table_meaning t) kinds copy.states
-      (held_mark (numbered_meaning w.plain class rep number) t w.list.1 small long copy)
-      (held_target (numbered_meaning w.plain class rep number) t w.list.1 small long copy)
+  whole_table = made_table w _ _ num.classes n.classes _ _ n.few num.numbered closed (table_meaning t) kinds copy.states
+      (held_mark (meaning_by n) t w.list.1 n.few long copy)
+      (held_target (meaning_by n) t w.list.1 n.few long copy)
 
   pub whole_clean : CopyOf (table_meaning t) t
-  whole_clean = clean (numbered_meaning w.plain class rep number) t w.list.1 small long copy
+  whole_clean = clean (meaning_by n) t w.list.1 n.few long copy
 
   pub whole_counted : length (kinds_held t) ≡ t.count
-  whole_counted = held_count (numbered_meaning w.plain class rep number) t w.list.1 small long copy
+  whole_counted = held_count (meaning_by n) t w.list.1 n.few long copy
 
   pub whole_ranks : Ranks (kinds_held t)
   whole_ranks = subst Ranks (sym kinds) w.list.2

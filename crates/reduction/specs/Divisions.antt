@@ -1,8 +1,10 @@
--- The same of values of Partition.
+-- The same of values of Partition and Division.
 use Rattle.std.specs.Prelude.{◌≡◌, ℕ, ◌≤◌, List, length}
 use Rattle.ruling.specs.Meanings.{Meaning}
+use Rattle.ruling.specs.declared.ruling.Ruling.{Ghosts}
 use Rattle.reduction.specs.declared.partition.Partition.{Partition}
-use Rattle.reduction.specs.Dividing.{LevelAt, Level, Split, Fewer, EvenBeside}
+use Rattle.reduction.specs.declared.division.Division.{Division}
+use Rattle.reduction.specs.Dividing.{LevelAt, Level, Split, Fewer}
 
 abbrev pub SplitOf : List ℕ → List ℕ → Partition → Partition → Type 0
 SplitOf live key p q = Split live key p.class p.leader.items q.class q.leader.items
@@ -20,14 +22,14 @@ LevelOf live key p = Level live key p.class p.leader.items
 abbrev pub FewerOf : List ℕ → Partition → List ℕ → Type 0
 FewerOf live p after = Fewer live p.class after
 
--- q has more classes than p, or as many: then they are the same ones, and P holds of them.
-pub record Finer (p q : Partition) (P : List ℕ → List ℕ → Type 0) : Type 0 where
-  pub more : length p.leader.items ≤ length q.leader.items
-  pub still : length q.leader.items ≡ length p.leader.items → Unchanged p q
-  pub holds : length q.leader.items ≡ length p.leader.items → P q.class q.leader.items
+module _ {R : Type 0} {G : Ghosts R} where
+  -- What the ruling means whose states are divided.
+  abbrev pub meant_by : Division R G → Meaning
+  meant_by d = (G.meaning d.ruling.now).plain
 
--- Nothing was divided, and the brother r divides nothing.
-pub record RestsAt (m : Meaning) (p q : Partition) (r : ℕ) : Type 0 where
-  pub count : length q.leader.items ≡ length p.leader.items
-  pub same : Unchanged p q
-  pub rests : EvenBeside m q.class q.leader.items 16 r
+  -- e has the ruling of d, and more classes or as many: then they are the same ones, and P holds of them.
+  pub record Finer (d e : Division R G) (P : List ℕ → List ℕ → Type 0) : Type 0 where
+    pub same : e.ruling ≡ d.ruling
+    pub more : length d.partition.leader.items ≤ length e.partition.leader.items
+    pub still : length e.partition.leader.items ≡ length d.partition.leader.items → Unchanged d.partition e.partition
+    pub holds : length e.partition.leader.items ≡ length d.partition.leader.items → P e.partition.class e.partition.leader.items

@@ -23,8 +23,8 @@ module _ {R : Type 0} {G : Ghosts R} where
   abbrev pub number_by : Numbering R G → ArgumentList → Option ℕ
   number_by n list = number_of n.partition.now.class n.number (aimed_by n list)
 
-  -- The partition is that into classes, and they are numbered in the order of discovery. No ghost field: such a field takes only
-  -- a fact with one proof, and this one has a record for each state and an argument list for each number.
+  -- The partition is that into classes, and they are numbered in the order of discovery. No ghost field: it could say only that
+  -- there is a proof, and the table's contract takes records and argument lists from it.
   pub record NumberedBy (n : Numbering R G) : Type 0 where
     pub classes : Classes (ruled_by n).kinds (ruled_by n) (length n.partition.now.leader.items) (λ p. slice_index n.partition.now.class p)
     pub numbered : Numbered (ruled_by n) n.partition.now.class n.rep.items n.number

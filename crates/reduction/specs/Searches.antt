@@ -15,8 +15,8 @@ module _ {R : Type 0} {G : Ghosts R} where
     pub same : g.ruling ≡ f.ruling
     pub more : Grown f.order.items f.seen g.order.items g.seen
 
-  -- And what is found is sound, if it was. No ghost field says that it is: such a field takes only a fact with one proof, and
-  -- this one has a record for each state.
+  -- And what is found is sound, if it was. No ghost field says that it is: it could say only that there is a proof, and the
+  -- list takes a record of each state from it.
   pub record Onto (f g : Search R G) : Type 0 where
     pub further : Further f g
     pub sound : Found (searched f) f.order.items f.seen → Found (searched f) g.order.items g.seen

@@ -22,9 +22,8 @@ impl<'a, R: Ruling> Numbering<'a, R> {
     }
 
     // The cells of a kind with the first child `first`, and so many second ones.
-    fn fill_row(&self, kind: u8, first: u8, seconds: u8, cells: &mut [u8])
+    fn fill_row(&self, kind: u8, first: u8, seconds: u8, cells: &mut [u8; 16384])
         requires fits { (b : ℕ) → b < seconds → Fits (ruled_by self.now).kinds (length self.now.rep.items) kind first b }
-        requires room { length cells.old ≡ 16384 }
         requires filling { Filling (meaning_by self.now) cells.old kind first 0 }
         ensures { Filling (meaning_by self.now) cells.new kind first seconds }
     {
@@ -39,9 +38,8 @@ impl<'a, R: Ruling> Numbering<'a, R> {
     }
 
     // The cells of a kind.
-    fn fill_kind(&self, kind: u8, cells: &mut [u8])
-        requires room { length cells.old ≡ 16384 }
-        requires filling { Filling (meaning_by self.now) cells.old kind 0 0 }
+    fn fill_kind(&self, kind: u8, cells: &mut [u8; 16384])
+        requires { Filling (meaning_by self.now) cells.old kind 0 0 }
         ensures { Filling (meaning_by self.now) cells.new (kind + 1) 0 0 }
     {
         let (firsts, seconds) = self.spans(kind);
@@ -50,15 +48,15 @@ impl<'a, R: Ruling> Numbering<'a, R> {
         }
     }
 
-    // The cells of all kinds; those of no argument list stay 0.
-    fn fill_cells(&self, cells: &mut [u8])
-        requires room { length cells.old ≡ 16384 }
-        requires zeros { (i : ℕ) → slice_index cells.old i ≡ 0 }
-        ensures { AllFilled (meaning_by self.now) cells.new }
+    // The cells of all kinds; those of no argument list are 0.
+    fn cells(&self) -> [u8; 16384]
+        ensures { AllFilled (meaning_by self.now) result }
     {
+        let mut cells = [0; 16384];
         for kind in 0..16u8 {
-            self.fill_kind(kind, cells);
+            self.fill_kind(kind, &mut cells);
         }
+        cells
     }
 
     // The marks of the numbered classes; the rest are no.
@@ -76,14 +74,12 @@ impl<'a, R: Ruling> Numbering<'a, R> {
     fn table_data(&self) -> TableData
         ensures { CopyOf (meaning_by self.now) result }
     {
-        let mut cells = [0; 16384];
-        self.fill_cells(&mut cells);
         TableData {
             count: kinds_of(self.ruling).len() as u8,
             ranks: ranks_of(self.ruling),
             states: self.count(),
             marks: self.marks(),
-            cells,
+            cells: self.cells(),
         }
     }
 

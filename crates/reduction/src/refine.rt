@@ -3,7 +3,7 @@ ghost use Rattle.ruling.specs.Trees.{Kind};
 ghost use Rattle.ruling.specs.Classes.{Reached, Classes};
 ghost use Rattle.reduction.specs.declared.context.Context.TheVariants.{Under};
 ghost use Rattle.reduction.specs.Dividing.{Even, EvenUnder, EvenBoth, EvenBeside, AllEven};
-ghost use Rattle.reduction.specs.Divisions.{Finer, RestsAt};
+ghost use Rattle.reduction.specs.Divisions.{meant_by, Finer};
 ghost use Rattle.reduction.specs.Searching.{Listing};
 
 use super::context::Context;
@@ -14,8 +14,7 @@ use ruling::Ruling;
 impl<'a, R: Ruling> Division<'a, R> {
     // Sweeps below a sign of this kind, if it is one.
     fn under_kind(&mut self, kind: u8)
-        ensures same { self.new.ruling ≡ self.old.ruling }
-        ensures finer { Finer self.old.partition self.new.partition (λ class leader. (Kind (R.Ruling.meaning self.old.ruling.now).plain.kinds kind 1 → Even (R.Ruling.meaning self.old.ruling.now).plain class (Under kind))) }
+        ensures { Finer self.old self.new (λ class leader. (Kind (meant_by self.old).kinds kind 1 → Even (meant_by self.old) class (Under kind))) }
     {
         if let Some(1) = self.ruling.rank(kind) {
             self.sweep(Context::Under { kind });
@@ -23,8 +22,7 @@ impl<'a, R: Ruling> Division<'a, R> {
     }
 
     fn under_each(&mut self)
-        ensures same { self.new.ruling ≡ self.old.ruling }
-        ensures finer { Finer self.old.partition self.new.partition (λ class leader. EvenUnder (R.Ruling.meaning self.old.ruling.now).plain class 16) }
+        ensures { Finer self.old self.new (λ class leader. EvenUnder (meant_by self.old) class 16) }
     {
         for kind in 0..16u8 {
             self.under_kind(kind);
@@ -33,9 +31,8 @@ impl<'a, R: Ruling> Division<'a, R> {
 
     // Sweeps below the signs until they divide nothing more.
     fn under_all(&mut self)
-        ensures same { self.new.ruling ≡ self.old.ruling }
-        ensures finer { Finer self.old.partition self.new.partition (λ class leader. Unit {0}) }
-        ensures even { EvenUnder (R.Ruling.meaning self.old.ruling.now).plain self.new.partition.class 16 }
+        ensures finer { Finer self.old self.new (λ class leader. Unit {0}) }
+        ensures even { EvenUnder (meant_by self.old) self.new.partition.class 16 }
     {
         loop {
             let before = self.partition.count();
@@ -57,10 +54,9 @@ impl<'a, R: Ruling> Division<'a, R> {
     // Sweeps below a join of this kind, with the brother as the right child; then, if nothing was divided and the brother
     // leads its class, with it as the left one.
     fn beside_join(&mut self, kind: u8, brother: u16)
-        requires kind { Kind (R.Ruling.meaning self.old.ruling.now).plain.kinds kind 2 }
-        requires brother { Reached (R.Ruling.meaning self.old.ruling.now).plain.kinds (R.Ruling.meaning self.old.ruling.now).plain brother }
-        ensures same { self.new.ruling ≡ self.old.ruling }
-        ensures finer { Finer self.old.partition self.new.partition (λ class leader. EvenBoth (R.Ruling.meaning self.old.ruling.now).plain class leader kind brother) }
+        requires kind { Kind (meant_by self.old).kinds kind 2 }
+        requires brother { Reached (meant_by self.old).kinds (meant_by self.old) brother }
+        ensures { Finer self.old self.new (λ class leader. EvenBoth (meant_by self.old) class leader kind brother) }
     {
         let before = self.partition.count();
         self.sweep(Context::Left { kind, brother });
@@ -73,9 +69,8 @@ impl<'a, R: Ruling> Division<'a, R> {
     }
 
     fn beside_kind(&mut self, kind: u8, brother: u16)
-        requires { Reached (R.Ruling.meaning self.old.ruling.now).plain.kinds (R.Ruling.meaning self.old.ruling.now).plain brother }
-        ensures same { self.new.ruling ≡ self.old.ruling }
-        ensures finer { Finer self.old.partition self.new.partition (λ class leader. (Kind (R.Ruling.meaning self.old.ruling.now).plain.kinds kind 2 → EvenBoth (R.Ruling.meaning self.old.ruling.now).plain class leader kind brother)) }
+        requires { Reached (meant_by self.old).kinds (meant_by self.old) brother }
+        ensures { Finer self.old self.new (λ class leader. (Kind (meant_by self.old).kinds kind 2 → EvenBoth (meant_by self.old) class leader kind brother)) }
     {
         if let Some(2) = self.ruling.rank(kind) {
             self.beside_join(kind, brother);
@@ -84,9 +79,8 @@ impl<'a, R: Ruling> Division<'a, R> {
 
     // Sweeps beside a brother below the joins, up to the first division.
     fn beside(&mut self, brother: u16)
-        requires { Reached (R.Ruling.meaning self.old.ruling.now).plain.kinds (R.Ruling.meaning self.old.ruling.now).plain brother }
-        ensures same { self.new.ruling ≡ self.old.ruling }
-        ensures finer { Finer self.old.partition self.new.partition (λ class leader. EvenBeside (R.Ruling.meaning self.old.ruling.now).plain class leader 16 brother) }
+        requires { Reached (meant_by self.old).kinds (meant_by self.old) brother }
+        ensures { Finer self.old self.new (λ class leader. EvenBeside (meant_by self.old) class leader 16 brother) }
     {
         let before = self.partition.count();
         for kind in 0..16u8 {
@@ -99,13 +93,13 @@ impl<'a, R: Ruling> Division<'a, R> {
 
     // Sweeps beside the brother at a place of the list, and below the signs again if that divided anything; answers whether it did.
     fn meet_brother(&mut self, list: &[u16], place: usize) -> bool
-        requires listed { Listing (R.Ruling.meaning self.old.ruling.now).plain list.now }
+        requires listed { Listing (meant_by self.old) list.now }
         requires place { place < length list.now }
-        requires even { EvenUnder (R.Ruling.meaning self.old.ruling.now).plain self.old.partition.class 16 }
-        ensures same { self.new.ruling ≡ self.old.ruling }
-        ensures even { EvenUnder (R.Ruling.meaning self.old.ruling.now).plain self.new.partition.class 16 }
-        ensures more { result ≡ true → length self.old.partition.leader.items < length self.new.partition.leader.items }
-        ensures rest { result ≡ false → RestsAt (R.Ruling.meaning self.old.ruling.now).plain self.old.partition self.new.partition (slice_index list.now place) }
+        requires even { EvenUnder (meant_by self.old) self.old.partition.class 16 }
+        ensures finer { Finer self.old self.new (λ class leader. EvenBeside (meant_by self.old) class leader 16 (slice_index list.now place)) }
+        ensures even { EvenUnder (meant_by self.old) self.new.partition.class 16 }
+        ensures divided { result ≡ true → length self.old.partition.leader.items < length self.new.partition.leader.items }
+        ensures rested { result ≡ false → length self.new.partition.leader.items ≡ length self.old.partition.leader.items }
     {
         let before = self.partition.count();
         self.beside(list[place]);
@@ -119,9 +113,9 @@ impl<'a, R: Ruling> Division<'a, R> {
     // Meets the brothers one after the other, in a circle, until a whole round of them has divided nothing, or no state is live.
     // Where all marks are equal there is one class at once.
     fn settle(&mut self, list: &[u16])
-        requires { Listing (R.Ruling.meaning self.old.ruling.now).plain list.now }
+        requires { Listing (meant_by self.old) list.now }
         ensures same { self.new.ruling ≡ self.old.ruling }
-        ensures even { AllEven (R.Ruling.meaning self.old.ruling.now).plain self.new.partition.class }
+        ensures even { AllEven (meant_by self.old) self.new.partition.class }
     {
         if self.partition.count() == 1 {
             return;
@@ -129,6 +123,7 @@ impl<'a, R: Ruling> Division<'a, R> {
         self.under_all();
         let mut quiet = 0;
         let mut next = 0;
+        // By place: each division lengthens the walk, so no iterator has the number of its steps.
         while !self.live.is_empty() && quiet < list.len() {
             let divided = self.meet_brother(list, next);
             quiet = quiet_after(divided, quiet);

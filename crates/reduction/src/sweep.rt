@@ -1,6 +1,6 @@
 ghost use Rattle.std.specs.Prelude.{◌≡◌, ◌<◌};
 ghost use Rattle.reduction.specs.Dividing.{IsContext, stepped, Keys, class_key, Even};
-ghost use Rattle.reduction.specs.Divisions.{Finer};
+ghost use Rattle.reduction.specs.Divisions.{meant_by, Finer};
 
 use super::context::Context;
 use super::division::Division;
@@ -25,8 +25,8 @@ fn onward<R: Ruling>(ruling: &R, context: Context, state: u16) -> u16
 impl<'a, R: Ruling> Division<'a, R> {
     // The class that each live state leads to in a context.
     fn classes_ahead(&self, context: Context) -> [u16; 1089]
-        requires { IsContext (R.Ruling.meaning self.now.ruling.now).plain context }
-        ensures { Keys (class_key (R.Ruling.meaning self.now.ruling.now).plain self.now.partition.class context) self.now.live.items result }
+        requires { IsContext (meant_by self.now) context }
+        ensures { Keys (class_key (meant_by self.now) self.now.partition.class context) self.now.live.items result }
     {
         let ruling = self.ruling;
         let class = &self.partition.class;
@@ -42,9 +42,8 @@ impl<'a, R: Ruling> Division<'a, R> {
 
     // Divides every class by where its members lead in a context; all keys are read before any class is written.
     pub(super) fn sweep(&mut self, context: Context)
-        requires { IsContext (R.Ruling.meaning self.old.ruling.now).plain context }
-        ensures same { self.new.ruling ≡ self.old.ruling }
-        ensures finer { Finer self.old.partition self.new.partition (λ class leader. Even (R.Ruling.meaning self.old.ruling.now).plain class context) }
+        requires { IsContext (meant_by self.old) context }
+        ensures { Finer self.old self.new (λ class leader. Even (meant_by self.old) class context) }
     {
         let before = self.partition.count();
         let key = self.classes_ahead(context);

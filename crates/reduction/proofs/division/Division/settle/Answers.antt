@@ -1,26 +1,28 @@
 use Rattle.std.proofs.Common.{get_or, ◌∙◌, subst, sym, arith}
 use Rattle.std.proofs.lemmas.Bool.{eqb-true}
-use Rattle.reduction.specs.Dividing.{EvenUnder, Sorted}
-use Rattle.reduction.specs.Divisions.{RestsAt}
+use Rattle.reduction.specs.Dividing.{EvenBeside, EvenUnder, Sorted}
 use Rattle.reduction.proofs.Dividing.{known_none, known_rest, resting_all, turn_less, turn_quiet, turn_rests}
 use Rattle.reduction.proofs.Splitting.{few_parts}
 use Rattle.reduction.proofs.division.Division.settle.Goals as goal
 
 pub loop-self-smaller : goal.loop-self-smaller
 loop-self-smaller g c = turn_less _ _ _ _ _ _ c.if-quiet-list.true (omega (arith, c.requires.few, (g.R.Ruling.meaning c.args.self.now.ruling.now).few))
-    (few_parts _ _ c.meet_brother-divided.new.self.partition.parts) c.meet_brother-divided.ensures.more (λ e. (c.meet_brother-divided.ensures.rest e).count)
-    c.quiet_after-quiet.ensures
+    (few_parts _ _ c.meet_brother-divided.new.self.partition.parts) c.meet_brother-divided.ensures.divided c.meet_brother-divided.ensures.rested c.quiet_after-quiet.ensures
 
 pub loop-self-preserved : goal.loop-self-preserved
 loop-self-preserved g c =
-    let old = c.loop-self.self.partition in
     let new = c.meet_brother-divided.new.self.partition in
+    let finer = c.meet_brother-divided.ensures.finer in
     record {
-      same = c.meet_brother-divided.ensures.same ∙ c.loop-self.invariant.same;
+      same = finer.same ∙ c.loop-self.invariant.same;
       even = subst (λ r. EvenUnder (g.R.Ruling.meaning r.now).plain new.class 16) c.loop-self.invariant.same c.meet_brother-divided.ensures.even;
       rests = turn_rests _ _ _ _ _ _ _ _ _ _ _ c.loop-self.invariant.place c.quiet_after-quiet.ensures
-          (λ e. let rest = subst (λ r. RestsAt (g.R.Ruling.meaning r.now).plain old new (get_or c.args.list.now c.loop-self.next 0)) c.loop-self.invariant.same (c.meet_brother-divided.ensures.rest e) in
-          (rest.same.0, rest.same.1, rest.rests)) c.loop-self.invariant.rests;
+          (λ e. let same = finer.still (c.meet_brother-divided.ensures.rested e) in (
+            same.0,
+            same.1,
+            subst (λ r. EvenBeside (g.R.Ruling.meaning r.now).plain new.class new.leader.items 16 (get_or c.args.list.now c.loop-self.next 0))
+                c.loop-self.invariant.same (finer.holds (c.meet_brother-divided.ensures.rested e)),
+          )) c.loop-self.invariant.rests;
       place = omega arith;
       few = turn_quiet _ _ _ _ c.if-quiet-list.true c.quiet_after-quiet.ensures;
     }

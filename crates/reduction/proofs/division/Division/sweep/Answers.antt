@@ -1,4 +1,4 @@
-use Rattle.std.proofs.Common.{◌<◌, All, sym, subst}
+use Rattle.std.proofs.Common.{◌<◌, All, sym, refl, subst}
 use mathlib.Core.Logic.{∥∥₁_map}
 use Rattle.reduction.specs.Dividing.{Fewer, Split, Level}
 use Rattle.reduction.proofs.Dividing.{live_small, swept, swept_even}
@@ -23,13 +23,14 @@ invariant_of-self-then-count-before g c =
           (subst (λ xs. Fewer xs after.class c.still_live-self.result.items) c.deref-then-count-before.ensures.0 c.still_live-self.ensures));
     }
 
-pub returns-else-count-before-clause-finer : goal.returns-else-count-before-clause-finer
-returns-else-count-before-clause-finer g c =
+pub returns-else-count-before : goal.returns-else-count-before
+returns-else-count-before g c =
     let key = c.classes_ahead-key.result in
     let class = c.args.self.now.partition.class in
     let leader = c.args.self.now.partition.leader.items in
     let after = c.split.new.self in
     record {
+      same = refl;
       more = c.split.ensures.split.more;
       still = c.split.ensures.still;
       holds = λ e. swept_even (g.R.Ruling.meaning c.args.self.now.ruling.now).plain c.args.context class leader _ key _ _ c.requires c.classes_ahead-key.ensures

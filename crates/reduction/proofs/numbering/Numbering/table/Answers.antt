@@ -7,29 +7,25 @@ invariant_of-result g c =
     let w = g.R.Ruling.meaning c.args.self.now.ruling.now in
     let t = c.table_data.result in
     let copy = c.table_data.ensures in
-    let dv = c.requires.numbered.classes in
-    let small = c.args.self.now.few in record {
+    record {
       some = omega (arith, copy.count, w.list.0);
       few = omega (arith, copy.count, w.list.1);
-      counted = whole_counted w _ _ dv c.args.self.now.classes _ _ small c.requires.numbered.numbered c.requires.closed t (omega arith) copy;
-      ranked = whole_ranks w _ _ dv c.args.self.now.classes _ _ small c.requires.numbered.numbered c.requires.closed t (omega arith) copy;
-      leaf = whole_leaf w _ _ dv c.args.self.now.classes _ _ small c.requires.numbered.numbered c.requires.closed t (omega arith) copy c.requires.leaf;
-      filled = whole_some w _ _ dv c.args.self.now.classes _ _ small c.requires.numbered.numbered c.requires.closed t (omega arith) copy c.requires.leaf;
-      limited = omega (arith, copy.states, small);
-      complete = whole_complete w _ _ dv c.args.self.now.classes _ _ small c.requires.numbered.numbered c.requires.closed t (omega arith) copy;
+      counted = whole_counted c.args.self.now c.requires.numbered c.requires.closed t (omega arith) copy;
+      ranked = whole_ranks c.args.self.now c.requires.numbered c.requires.closed t (omega arith) copy;
+      leaf = whole_leaf c.args.self.now c.requires.numbered c.requires.closed t (omega arith) copy c.requires.leaf;
+      filled = whole_some c.args.self.now c.requires.numbered c.requires.closed t (omega arith) copy c.requires.leaf;
+      limited = omega (arith, copy.states, c.args.self.now.few);
+      complete = whole_complete c.args.self.now c.requires.numbered c.requires.closed t (omega arith) copy;
     }
 
 pub returns : goal.returns
 returns g c =
-    let w = g.R.Ruling.meaning c.args.self.now.ruling.now in
     let t = c.table_data.result in
     let copy = c.table_data.ensures in
-    let dv = c.requires.numbered.classes in
-    let small = c.args.self.now.few in
     record {
-      table = whole_table w _ _ dv c.args.self.now.classes _ _ small c.requires.numbered.numbered c.requires.closed t (omega arith) copy;
+      table = whole_table c.args.self.now c.requires.numbered c.requires.closed t (omega arith) copy;
       clean = record {
-        copy = whole_clean w _ _ dv c.args.self.now.classes _ _ small c.requires.numbered.numbered c.requires.closed t (omega arith) copy;
+        copy = whole_clean c.args.self.now c.requires.numbered c.requires.closed t (omega arith) copy;
         ranks_room = omega arith;
         marks_room = omega arith;
         cells_room = omega arith;

@@ -1,11 +1,7 @@
-use Rattle.std.proofs.Common.{length, refl, ap, ◌∙◌, arith}
+use Rattle.std.proofs.Common.{length, ap, ◌∙◌, arith}
 use Rattle.reduction.specs.Numberings.{meaning_by}
-use Rattle.reduction.proofs.Bounds.{fresh}
 use Rattle.reduction.proofs.Cells.{place_parts}
 use Rattle.reduction.proofs.numbering.Numbering.table_data.Goals as goal
-
-pub fill_cells-requires : goal.fill_cells-requires
-fill_cells-requires g c = record { room = refl; zeros = fresh 16384 0 }
 
 pub returns : goal.returns
 returns g c = record {
@@ -13,5 +9,5 @@ returns g c = record {
   ranks = c.ranks_of.ensures;
   states = c.count.ensures;
   marks = c.marks.ensures;
-  cells = λ k a b h p q. c.fill_cells.ensures _ (omega arith) ∙ place_parts (meaning_by c.args.self.now) k a b p q;
+  cells = λ k a b h p q. c.cells.ensures _ (omega arith) ∙ place_parts (meaning_by c.args.self.now) k a b p q;
 }
