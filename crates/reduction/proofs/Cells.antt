@@ -1,14 +1,14 @@
 -- The cells and marks of a table, filled one after the other.
-use Rattle.std.proofs.Common.{◌≡◌, ℕ, ◌+◌, ◌/◌, ◌%◌, ◌<◌, ◌≤◌, Bool, true, false, cond, ◌&&◌, ltb, ◌⊎◌, List, length, get_or, set, Some, None, Option, unwrap_or, sym, refl, ap, ◌∙◌, subst, ap₂, inl, inr, arith, get_or-set_other, get_or-set_same}
+use Rattle.std.proofs.Common.{◌≡◌, ℕ, ◌+◌, ◌/◌, ◌%◌, ◌<◌, ◌≤◌, Bool, true, false, cond, ◌&&◌, ltb, ◌⊎◌, List, length, get_or, set, Some, None, unwrap_or, sym, refl, ap, ◌∙◌, subst, ap₂, inl, inr, arith, get_or-set_other, get_or-set_same}
 use native.Mathlib.Decide.{ℕ_discrete}
 use Rattle.ruling.specs.Meanings.{Meaning, Fits}
 use Rattle.ruling.specs.Questions.{fitting, targeted, marked}
 use Rattle.ruling.specs.Rulings.{Ruled}
 use Rattle.encoder.specs.Tables.{cell_place}
 use Rattle.encoder.proofs.Copies.{fits_small}
-use Rattle.reduction.specs.Numbering.{Spans, numbered_meaning}
+use Rattle.reduction.specs.Numbering.{Spans}
 use Rattle.reduction.specs.Filling.{cell_at, CellFilled, Filling, AllFilled, MarksFilled}
-use Rattle.ruling.proofs.ArgumentLists.{fits_kind, told_fits, fits_targeted, state_marked}
+use Rattle.ruling.proofs.ArgumentLists.{fits_kind, told_fits, state_marked}
 use Rattle.reduction.proofs.Numbers.{before_cell, before_row, before_block}
 
 -- The kind and the children of a place.
@@ -19,11 +19,6 @@ place_parts c k a b p q =
     let z : cell_place k a b % 32 ≡ b = omega arith in
     ap (λ i. unwrap_or (targeted c i (cell_place k a b / 32 % 32) (cell_place k a b % 32)) 0) x ∙ ap₂ (λ i j. unwrap_or (targeted c k i j) 0) y z
 
--- The cell of an argument list is its target.
-pub cell_target : (c : Meaning) (k a b : ℕ) → c.states ≤ 32 → Fits c.kinds c.states k a b → cell_at c (cell_place k a b) ≡ c.target k a b
-cell_target c k a b few f = let w = fits_small c.kinds c.states k a b few f in
-    place_parts c k a b w.0 w.1 ∙ ap (λ o. unwrap_or o 0) (fits_targeted c k a b f)
-
 pub cell_room : (w : Ruled) (s k a b n : ℕ) → n ≡ 16384 → s ≤ 32 → Fits w.plain.kinds s k a b → cell_place k a b < n
 cell_room w s k a b n e few f = let v = fits_small w.plain.kinds s k a b few f in
     omega (arith, v.0, v.1, w.list.1, fits_kind w.plain.kinds s k a b f)
@@ -33,7 +28,7 @@ pub filling_cell : (c : Meaning) (cells : List ℕ) (k a b v : ℕ) → cell_pla
     → Filling c cells k a b → Filling c (set cells (cell_place k a b) v) k a (b + 1)
 filling_cell c cells k a b v room e before = record {
   sound = λ i. sound i (ℕ_discrete i (cell_place k a b));
-  done = before_cell c c.states (CellFilled c (set cells (cell_place k a b) v)) k a b here
+  done = before_cell c.kinds c.states (CellFilled c (set cells (cell_place k a b) v)) k a b here
       (λ l x y f h. kept l x y (before.done l x y f h) (ℕ_discrete (cell_place l x y) (cell_place k a b)));
 }
   where
@@ -52,11 +47,11 @@ filling_cell c cells k a b v room e before = record {
     kept l x y h (yes d) = subst (λ j. get_or (set cells (cell_place k a b) v) j 0 ≡ cell_at c j) (sym d) here
     kept l x y h (no d) = get_or-set_other cells (cell_place k a b) (cell_place l x y) v 0 d ∙ h
 
-pub filling_row : (c : Meaning) (cells : List ℕ) (k a b w v : ℕ) → Spans c c.states k w v → v ≤ b → Filling c cells k a b → Filling c cells k (a + 1) 0
-filling_row c cells k a b w v sp h f = record { sound = f.sound; done = before_row c c.states (CellFilled c cells) k a b w v sp h f.done }
+pub filling_row : (c : Meaning) (cells : List ℕ) (k a b w v : ℕ) → Spans c.kinds c.states k w v → v ≤ b → Filling c cells k a b → Filling c cells k (a + 1) 0
+filling_row c cells k a b w v sp h f = record { sound = f.sound; done = before_row c.kinds c.states (CellFilled c cells) k a b w v sp h f.done }
 
-pub filling_block : (c : Meaning) (cells : List ℕ) (k a w v : ℕ) → Spans c c.states k w v → w ≤ a → Filling c cells k a 0 → Filling c cells (k + 1) 0 0
-filling_block c cells k a w v sp h f = record { sound = f.sound; done = before_block c c.states (CellFilled c cells) k a w v sp h f.done }
+pub filling_block : (c : Meaning) (cells : List ℕ) (k a w v : ℕ) → Spans c.kinds c.states k w v → w ≤ a → Filling c cells k a 0 → Filling c cells (k + 1) 0 0
+filling_block c cells k a w v sp h f = record { sound = f.sound; done = before_block c.kinds c.states (CellFilled c cells) k a w v sp h f.done }
 
 -- A table of a kind list with at most 16 kinds, which is that of a ruling, is filled after kind 16.
 module _ (w : Ruled) (c : Meaning) (same : c.kinds ≡ w.plain.kinds) (few : c.states ≤ 32) (cells : List ℕ) (k : ℕ) (h : 16 ≤ k) (f : Filling c cells k 0 0) where
@@ -86,7 +81,3 @@ marks_more c marks n v room h e done s l = go (ℕ_discrete s n)
 pub filling_at : (c : Meaning) (cells : List ℕ) (k a b v i : ℕ) → i ≡ cell_place k a b → cell_place k a b < length cells → v ≡ cell_at c (cell_place k a b)
     → Filling c cells k a b → Filling c (set cells i v) k a (b + 1)
 filling_at c cells k a b v i e room f before = subst (λ j. Filling c (set cells j v) k a (b + 1)) (sym e) (filling_cell c cells k a b v room f before)
-
--- The numbered classes have the ruling's kinds, and so its argument lists.
-pub spans_by : (m : Meaning) (class rep : List ℕ) (number : List (Option ℕ)) (k w v : ℕ) → Spans m (length rep) k w v → Spans (numbered_meaning m class rep number) (length rep) k w v
-spans_by m class rep number k w v sp = record { inside = sp.inside; fits = sp.fits }

@@ -54,8 +54,8 @@ module _ (w : Ruled) (rep : List ℕ) (below : (i : ℕ) → get_or rep i 0 < w.
       go (two x y z) = subst (λ t. t < w.plain.states) (sym (aimed_2 w.plain rep k a b x)) (w.complete k _ _ (two x (below a) (below b)))
 
 -- What holds before an argument list holds before the next one.
-module _ (m : Meaning) (s : ℕ) (P : ℕ → ℕ → ℕ → Type 0) where
-  pub before_cell : (k a b : ℕ) → P k a b → AllBefore m s P k a b → AllBefore m s P k a (b + 1)
+module _ (ks : List ℕ) (s : ℕ) (P : ℕ → ℕ → ℕ → Type 0) where
+  pub before_cell : (k a b : ℕ) → P k a b → AllBefore ks s P k a b → AllBefore ks s P k a (b + 1)
   before_cell k a b p all l x y f (inl h) = all l x y f (inl h)
   before_cell k a b p all l x y f (inr (e, inl h)) = all l x y f (inr (e, inl h))
   before_cell k a b p all l x y f (inr (e, inr (g, h))) = go (dec_lt y b)
@@ -64,16 +64,16 @@ module _ (m : Meaning) (s : ℕ) (P : ℕ → ℕ → ℕ → Type 0) where
       go (yes d) = all l x y f (inr (e, inr (g, d)))
       go (no d) = let z : y ≡ b = omega arith in subst (λ i. P i x y) (sym e) (subst (λ i. P k i y) (sym g) (subst (P k a) (sym z) p))
 
-  pub before_row : (k a b w v : ℕ) → Spans m s k w v → v ≤ b → AllBefore m s P k a b → AllBefore m s P k (a + 1) 0
+  pub before_row : (k a b w v : ℕ) → Spans ks s k w v → v ≤ b → AllBefore ks s P k a b → AllBefore ks s P k (a + 1) 0
   before_row k a b w v sp h all l x y f (inl p) = all l x y f (inl p)
   before_row k a b w v sp h all l x y f (inr (e, inr p)) = absurd (omega (arith, p.1))
   before_row k a b w v sp h all l x y f (inr (e, inl p)) = go (dec_lt x a)
     where
       go : Dec (x < a) → P l x y
       go (yes q) = all l x y f (inr (e, inl q))
-      go (no q) = all l x y f (inr (e, inr (omega arith, omega (arith, (sp.inside x y (subst (λ i. Fits m.kinds s i x y) e f)).1))))
+      go (no q) = all l x y f (inr (e, inr (omega arith, omega (arith, (sp.inside x y (subst (λ i. Fits ks s i x y) e f)).1))))
 
-  pub before_block : (k a w v : ℕ) → Spans m s k w v → w ≤ a → AllBefore m s P k a 0 → AllBefore m s P (k + 1) 0 0
+  pub before_block : (k a w v : ℕ) → Spans ks s k w v → w ≤ a → AllBefore ks s P k a 0 → AllBefore ks s P (k + 1) 0 0
   before_block k a w v sp h all l x y f (inr (e, inl p)) = absurd (omega arith)
   before_block k a w v sp h all l x y f (inr (e, inr p)) = absurd (omega (arith, p.1))
   before_block k a w v sp h all l x y f (inl p) = go (dec_lt l k)
@@ -81,7 +81,7 @@ module _ (m : Meaning) (s : ℕ) (P : ℕ → ℕ → ℕ → Type 0) where
       go : Dec (l < k) → P l x y
       go (yes q) = all l x y f (inl q)
       go (no q) = let e : l ≡ k = omega arith in
-          all l x y f (inr (e, inl (omega (arith, (sp.inside x y (subst (λ i. Fits m.kinds s i x y) e f)).0))))
+          all l x y f (inr (e, inl (omega (arith, (sp.inside x y (subst (λ i. Fits ks s i x y) e f)).0))))
 
 some_other : {A : Type 0} {x : ℕ} {o : Option ℕ} → o ≡ Some x → o ≡ None → A
 some_other e f = absurd (let z : ◌≡◌ {A = ℕ} 0 1 = cc in omega arith)
@@ -187,7 +187,7 @@ module _ (w : Ruled) (class : List ℕ) (c : ℕ) (dv : Classes w.plain.kinds w.
       same : (l x y : ℕ) → Fits w.plain.kinds i l x y → aimed w.plain (rep ++ t ∷ []) l x y ≡ aimed w.plain rep l x y
       same l x y g = aimed_moved w.plain rep (rep ++ t ∷ []) i (λ j p. old j (omega arith)) l x y g
 
-  module _ (clear : AllBefore w.plain (length rep) (HasNumber w.plain class rep number) k a b) where
+  module _ (clear : AllBefore w.plain.kinds (length rep) (HasNumber w.plain class rep number) k a b) where
     met : Source w.plain class (rep ++ t ∷ []) (length rep)
     met = record {
       kind = k;

@@ -17,7 +17,7 @@ CellFilled c cells k a b = slice_index cells (cell_place k a b) ≡ cell_at c (c
 -- The cells before those of k a b are filled, and every other one is filled or 0.
 pub record Filling (c : Meaning) (cells : List ℕ) (k a b : ℕ) : Type 0 where
   pub sound : (i : ℕ) → (slice_index cells i ≡ cell_at c i) ⊎ (slice_index cells i ≡ 0)
-  pub done : AllBefore c c.states (CellFilled c cells) k a b
+  pub done : AllBefore c.kinds c.states (CellFilled c cells) k a b
 
 -- Every cell has its value.
 abbrev pub AllFilled : Meaning → List ℕ → Type 0

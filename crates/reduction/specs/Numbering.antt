@@ -20,13 +20,13 @@ abbrev pub number_of : List ℕ → List (Option ℕ) → ℕ → Option ℕ
 number_of class number p = slice_index_or number (slice_index class p) None
 
 -- Of kind k, an argument list over s states has its first state below w and its second below v, and all of these are argument lists.
-pub record Spans (m : Meaning) (s k w v : ℕ) : Type 0 where
-  pub inside : (a b : ℕ) → Fits m.kinds s k a b → (a < w) × (b < v)
-  pub fits : (a b : ℕ) → a < w → b < v → Fits m.kinds s k a b
+pub record Spans (ks : List ℕ) (s k w v : ℕ) : Type 0 where
+  pub inside : (a b : ℕ) → Fits ks s k a b → (a < w) × (b < v)
+  pub fits : (a b : ℕ) → a < w → b < v → Fits ks s k a b
 
 -- P holds of each argument list over s states before k a b.
-abbrev pub AllBefore : Meaning → ℕ → (ℕ → ℕ → ℕ → Type 0) → ℕ → ℕ → ℕ → Type 0
-AllBefore m s P k a b = (l x y : ℕ) → Fits m.kinds s l x y → Before l x y k a b → P l x y
+abbrev pub AllBefore : List ℕ → ℕ → (ℕ → ℕ → ℕ → Type 0) → ℕ → ℕ → ℕ → Type 0
+AllBefore ks s P k a b = (l x y : ℕ) → Fits ks s l x y → Before l x y k a b → P l x y
 
 -- The target of the argument list has a number.
 abbrev pub HasNumber : Meaning → List ℕ → List ℕ → List (Option ℕ) → ℕ → ℕ → ℕ → Type 0
@@ -37,7 +37,7 @@ abbrev pub Opened : Meaning → List ℕ → List ℕ → List (Option ℕ) → 
 Opened m class rep number None = (l x y : ℕ) → Fits m.kinds (length rep) l x y → HasNumber m class rep number l x y
 Opened m class rep number (Some list) = Fits m.kinds (length rep) list.kind list.first list.second
     × (number_of class number (aimed m rep list.kind list.first list.second) ≡ None)
-    × AllBefore m (length rep) (HasNumber m class rep number) list.kind list.first list.second
+    × AllBefore m.kinds (length rep) (HasNumber m class rep number) list.kind list.first list.second
 
 -- The argument list at which the class numbered i was discovered.
 pub record Source (m : Meaning) (class rep : List ℕ) (i : ℕ) : Type 0 where
