@@ -42,9 +42,12 @@ stepped_same m (Left k r) p q at e = subst (λ y. Same m.kinds m (m.target k p y
 stepped_same m (Right k r) p q at e = subst (λ y. Same m.kinds m (m.target k y p) (m.target k y q)) at.1.runs
     (inside m.kinds m (right k at.1.tree gap) (at.0, at.1.over, tt) p q e)
 
--- Reached states are numbers for states.
-pub all_small : (w : Ruled) (xs : List ℕ) → All (Reached w.plain.kinds w.plain) xs → All (λ s. s < 1089) xs
-all_small w xs hit k d h = omega (arith, reached_below w (get_or xs k d) (hit k d h), w.few)
+-- Listed states are states, and so numbers for them.
+pub listed_below : (w : Ruled) (list : List ℕ) → Listing w.plain list → All (λ s. s < w.plain.states) list
+listed_below w list listing = All-from_get_or (λ s. s < w.plain.states) list 0 (λ i h. reached_below w (get_or list i 0) (listing.reached i h))
+
+pub listed_small : (w : Ruled) (list : List ℕ) → Listing w.plain list → All (λ s. s < 1089) list
+listed_small w list listing k d h = omega (arith, listed_below w list listing k d h, w.few)
 
 -- Classes divided by keys that are equal where no surrounding tells apart are sound, if members of a class have equal marks.
 module _ (m : Meaning) (class leader live key class' leader' : List ℕ)
@@ -165,11 +168,12 @@ known_below h f = ∥∥₁_elim h le_prop f
 pub known_equal : {A : Type 0} {x y : ℕ} → ∥ A ∥₁ → (A → x ≡ y) → x ≡ y
 known_equal h f = ∥∥₁_elim h (ℕ_set _ _) f
 
-pub live_below : (w : Ruled) (class leader live : List ℕ) → ∥ Sorted w.plain class leader live ∥₁ → All (λ s. s < w.plain.states) live
-live_below w class leader live sorted k d h = known_below sorted (λ z. reached_below w (get_or live k d) (z.lives.reached k d h))
+pub live_below : (w : Ruled) (class leader live xs : List ℕ) → xs ≡ live → ∥ Sorted w.plain class leader live ∥₁ → All (λ s. s < w.plain.states) xs
+live_below w class leader live xs e sorted = subst (All (λ s. s < w.plain.states)) (sym e)
+    (λ k d h. known_below sorted (λ z. reached_below w (get_or live k d) (z.lives.reached k d h)))
 
-pub live_small : (w : Ruled) (class leader live : List ℕ) → ∥ Sorted w.plain class leader live ∥₁ → All (λ s. s < 1089) live
-live_small w class leader live sorted k d h = omega (arith, live_below w class leader live sorted k d h, w.few)
+pub live_small : (w : Ruled) (class leader live xs : List ℕ) → xs ≡ live → ∥ Sorted w.plain class leader live ∥₁ → All (λ s. s < 1089) xs
+live_small w class leader live xs e sorted k d h = omega (arith, live_below w class leader live xs e sorted k d h, w.few)
 
 -- Every member of a class is alone where no state is live.
 pub none_live : (m : Meaning) (class live : List ℕ) → length live ≡ 0 → Lives m class live → AllEven m class

@@ -4,9 +4,9 @@ ghost use Rattle.reduction.specs.Searching.{Listing};
 
 use super::division::Division;
 use super::keys::keys_of;
+use super::live::still_live;
 use super::partition::Partition;
 use super::questions::mark_of;
-use super::refresh::still_live;
 use arrayvec::ArrayVec;
 use ruling::Ruling;
 

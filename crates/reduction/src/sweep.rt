@@ -5,20 +5,22 @@ ghost use Rattle.reduction.specs.Divisions.{meant_by, Finer};
 use super::context::Context;
 use super::division::Division;
 use super::keys::keys_of;
+use super::live::still_live;
 use super::questions::target_of;
-use super::refresh::still_live;
 use ruling::Ruling;
 
-// Where a state leads in a context.
-fn onward<R: Ruling>(ruling: &R, context: Context, state: u16) -> u16
-    requires context { IsContext (R.Ruling.meaning ruling.now).plain context }
-    requires state { state < (R.Ruling.meaning ruling.now).plain.states }
-    ensures { result ≡ stepped (R.Ruling.meaning ruling.now).plain context state }
-{
-    match context {
-        Context::Under { kind } => target_of(ruling, kind, state, 0),
-        Context::Left { kind, brother } => target_of(ruling, kind, state, brother),
-        Context::Right { kind, brother } => target_of(ruling, kind, brother, state),
+impl Context {
+    // Where a state leads in this context.
+    fn onward<R: Ruling>(self, ruling: &R, state: u16) -> u16
+        requires context { IsContext (R.Ruling.meaning ruling.now).plain self }
+        requires state { state < (R.Ruling.meaning ruling.now).plain.states }
+        ensures { result ≡ stepped (R.Ruling.meaning ruling.now).plain self state }
+    {
+        match self {
+            Context::Under { kind } => target_of(ruling, kind, state, 0),
+            Context::Left { kind, brother } => target_of(ruling, kind, state, brother),
+            Context::Right { kind, brother } => target_of(ruling, kind, brother, state),
+        }
     }
 }
 
@@ -36,7 +38,7 @@ impl<'a, R: Ruling> Division<'a, R> {
                 requires context { IsContext (R.Ruling.meaning ruling.now).plain context }
                 requires state { state < (R.Ruling.meaning ruling.now).plain.states }
                 ensures { result ≡ class_key (R.Ruling.meaning ruling.entry.now).plain class.entry.now context state }
-            { class[onward(ruling, context, state) as usize] },
+            { class[context.onward(ruling, state) as usize] },
         )
     }
 

@@ -1,15 +1,14 @@
-use Rattle.std.proofs.Common.{◌<◌, All, sym, refl, subst}
+use Rattle.std.proofs.Common.{refl, subst}
 use mathlib.Core.Logic.{∥∥₁_map}
 use Rattle.reduction.specs.Dividing.{Fewer, Split, Level}
 use Rattle.reduction.proofs.Dividing.{live_small, swept, swept_even}
 use Rattle.reduction.proofs.division.Division.sweep.Goals as goal
 
 pub split-requires : goal.split-requires
-split-requires g c = subst (All (λ s. s < 1089)) (sym c.deref.ensures.0) (live_small (g.R.Ruling.meaning c.args.self.now.ruling.now) _ _ _ c.args.self.now.sorted)
+split-requires g c = live_small (g.R.Ruling.meaning c.args.self.now.ruling.now) _ _ _ _ c.deref.ensures.0 c.args.self.now.sorted
 
 pub still_live-self-requires-clause-small : goal.still_live-self-requires-clause-small
-still_live-self-requires-clause-small g c = subst (All (λ s. s < 1089)) (sym c.deref-then-count-before.ensures.0)
-    (live_small (g.R.Ruling.meaning c.args.self.now.ruling.now) _ _ _ c.args.self.now.sorted)
+still_live-self-requires-clause-small g c = live_small (g.R.Ruling.meaning c.args.self.now.ruling.now) _ _ _ _ c.deref-then-count-before.ensures.0 c.args.self.now.sorted
 
 pub invariant_of-self-then-count-before : goal.invariant_of-self-then-count-before
 invariant_of-self-then-count-before g c =

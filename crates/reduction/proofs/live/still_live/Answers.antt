@@ -2,7 +2,7 @@ use Rattle.std.proofs.Common.{sym, subst, arith}
 use Rattle.reduction.specs.Dividing.{Fewer}
 use Rattle.reduction.proofs.LiveStates.{fewer_live}
 use Rattle.reduction.proofs.Splitting.{few_parts}
-use Rattle.reduction.proofs.refresh.still_live.Goals as goal
+use Rattle.reduction.proofs.live.still_live.Goals as goal
 
 pub in_shared-requires-clause-classes : goal.in_shared-requires-clause-classes
 in_shared-requires-clause-classes c p = omega (arith, few_parts _ _ c.args.partition.now.parts, c.args.partition.now.parts.small p)

@@ -20,7 +20,7 @@ fn shared_classes(live: &[u16], partition: &Partition) -> [bool; 1089]
     shared
 }
 
-// The live states whose class is shared.
+// The live states whose class is shared. Pushed one by one: the test of `retain` would have to answer for every number.
 fn in_shared(live: &[u16], class: &[u16; 1089], shared: &[bool; 1089]) -> ArrayVec<u16, 1089>
     requires few { length live.now ≤ 1089 }
     requires small { All (λ s. s < 1089) live.now }

@@ -2,7 +2,7 @@ use Rattle.std.proofs.Common.{refl, subst}
 use Rattle.ruling.specs.Meanings.{one, two}
 use Rattle.reduction.specs.Dividing.{IsContext}
 use Rattle.reduction.proofs.Bounds.{reached_below}
-use Rattle.reduction.proofs.sweep.onward.Goals as goal
+use Rattle.reduction.proofs.context.Context.onward.Goals as goal
 
 pub target_of-requires : goal.target_of-requires
 target_of-requires g c = one (subst (IsContext (g.R.Ruling.meaning c.args.ruling.now).plain) c.in-Under.is c.requires.context) c.requires.state refl
