@@ -1,5 +1,5 @@
 -- The children of a checked record.
-use Rattle.std.proofs.Common.{◌≡◌, ℕ, ◌+◌, ◌-◌, ◌<◌, ◌≤◌, ltb, List, ◌++◌, length, get_or, take, drop, is_some, Some, None, refl, ap, ◌∙◌, arith, length-append, length-take, length-take-le}
+use Rattle.std.proofs.Common.{◌≡◌, ℕ, ◌+◌, ◌-◌, ◌<◌, ◌≤◌, ltb, List, ◌++◌, length, get_or, take, drop, is_some, Some, None, Option, refl, ap, ◌∙◌, arith, length-append, length-take, length-take-le}
 use Rattle.std.proofs.lemmas.List.{length-drop}
 use Rattle.ruling.specs.Trees.{Tree, Over, postorder}
 use Rattle.record.specs.declared.record.Record.{Record}
@@ -17,10 +17,17 @@ module _ (r : Record) (n : ℕ) where
       let w = is_written (kinds_of r) (bytes_of r) r.read in
       root_rank (kinds_of r) (bytes_of r) (tree_of r) w.over w.written
 
-  pub known_held : is_some (child_span (tree_of r) n) ≡ ltb n (get_or (kinds_of r) (root_kind (tree_of r)) 0)
+  known_held : is_some (child_span (tree_of r) n) ≡ ltb n (get_or (kinds_of r) (root_kind (tree_of r)) 0)
   known_held =
       some_child 0 (children_of (tree_of r)) n
       ∙ ap (λ (k : ℕ). ltb n k) (rank_children (kinds_of r) (tree_of r) (is_written (kinds_of r) (bytes_of r) r.read).over)
+
+  -- the parts of the search's contract
+  abbrev pub Said : Option Span → Type 0
+  Said o = record { span : o ≡ child_span (tree_of r) n; known : is_some o ≡ ltb n (get_or (kinds_of r) (root_kind (tree_of r)) 0) }
+
+  pub says : (o : Option Span) → o ≡ child_span (tree_of r) n → Said o
+  says o e = record { span = e; known = ap is_some e ∙ known_held }
 
   pub none_held : (rank : ℕ) → rank ≡ get_or (kinds_of r) (get_or (bytes_of r) (length (bytes_of r) - 1) 0) 0 → rank ≤ n → None ≡ child_span (tree_of r) n
   none_held rank e l = let q = rooted in no_child 0 (children_of (tree_of r)) n (omega arith)

@@ -1,5 +1,5 @@
 -- Kind lists, rank by rank.
-use Rattle.std.proofs.Common.{◌≡◌, ℕ, suc, ◌+◌, ◌<◌, ◌≤◌, max, Bool, true, false, cond, not, ◌&&◌, eqb, ltb, List, [], ◌∷◌, length, get_or, take, is_some, Some, None, Ok, Err, Option, Result, sym, refl, ap, ◌∙◌, ap₂, subst, arith, length-take-le, get_or-take, ltb-false, ltb-true, le-ltb, lt-ltb, eq-eqb, eqb-true, le-leb}
+use Rattle.std.proofs.Common.{◌≡◌, ℕ, ◌+◌, ◌<◌, ◌≤◌, max, Bool, true, false, cond, not, ◌&&◌, eqb, ltb, List, length, get_or, take, is_some, Some, None, Ok, Err, Option, Result, sym, refl, ap, ◌∙◌, ap₂, subst, arith, length-take-le, get_or-take, ltb-false, ltb-true, le-ltb, lt-ltb, eq-eqb, eqb-true, le-leb}
 use native.Mathlib.Decide.{dec_lt}
 use native.Mathlib.Nat.{le-max_left, le-max_right}
 use Rattle.std.specs.Option.{MatchOption, option_map}
@@ -9,13 +9,8 @@ use Rattle.ruling.specs.declared.refusal.Refusal.TheVariants.{KindCount, RankAbo
 use Rattle.ruling.specs.Questions.{rank_in}
 use Rattle.ruling.specs.Checks.{lowest, first, Answers}
 use Rattle.ruling.specs.KindLists.{Ranks, KindList, has_leaf, count_fault, rank_fault, list_fault, same_rank, differing}
+use Rattle.std.proofs.lemmas.List.{ext_get_or}
 use Rattle.ruling.proofs.Lowest.{lowest_none, lowest_at, none_lowest}
-
-pub same_list : (xs ys : List ℕ) → length xs ≡ length ys → ((k : ℕ) → k < length xs → get_or xs k 0 ≡ get_or ys k 0) → xs ≡ ys
-same_list [] [] l h = refl
-same_list [] (y ∷ ys) l h = absurd (omega arith)
-same_list (x ∷ xs) [] l h = absurd (omega arith)
-same_list (x ∷ xs) (y ∷ ys) l h = ap₂ ◌∷◌ (h 0 (omega arith)) (same_list xs ys (omega arith) (λ k i. h (suc k) (omega arith)))
 
 pub no_rank : (ks : List ℕ) (k : ℕ) → None ≡ rank_in ks k → length ks ≤ k
 no_rank ks k e = go (ltb k (length ks)) refl e
@@ -54,7 +49,7 @@ leaf_found ks false h = ap is_some (lowest_none (λ k. eqb (get_or ks k 0) 0) 0 
 pub front : (ks xs : List ℕ) (n : ℕ) → n ≡ length ks → n ≤ length xs → ((k : ℕ) → k < n → get_or xs k 0 ≡ get_or ks k 0) → take n xs ≡ ks
 front ks xs n e l h =
     let t = length-take-le n xs l in
-    same_list (take n xs) ks (t ∙ e) (λ k i. let u : k < n = omega arith in get_or-take n xs k 0 u ∙ h k u)
+    ext_get_or 0 (take n xs) ks (t ∙ e) (λ k i. let u : k < n = omega arith in get_or-take n xs k 0 u ∙ h k u)
 
 -- equal answers about every rank come from equal lists
 pub same_answer : (x y : Option ℕ) → same_rank x y ≡ true → x ≡ y
@@ -81,7 +76,7 @@ pub lists_same : (ks ls : List ℕ) → length ks ≤ 16 → length ls ≤ 16
 lists_same ks ls a b h =
     let u = longer ks ls a h in
     let v = longer ls ks b (λ k l. turned (rank_in ks k) (rank_in ls k) (h k l)) in
-    same_list ks ls (omega arith) (λ k l.
+    ext_get_or 0 ks ls (omega arith) (λ k l.
     let e = same_answer (rank_in ks k) (rank_in ls k) (h k (omega arith)) in
     let r : Some (get_or ks k 0) ≡ Some (get_or ls k 0) = sym (rank_at ks k l) ∙ (e ∙ rank_at ls k (omega arith)) in
     cc)

@@ -28,7 +28,7 @@ fn check_small(ranks: &[u8]) -> Result<(), Refusal>
 fn has_leaf(ranks: &[u8]) -> bool
     ensures { result ≡ has_leaf ranks.now }
 {
-    ranks.contains(&0)
+    ranks.iter().any(|rank| *rank == 0)
 }
 
 // Whether these ranks are a kind list: 1, then 2.
