@@ -5,7 +5,6 @@ ghost use Rattle.encoder.specs.Tables.{table_meaning, Equal};
 ghost use Rattle.encoder.specs.Encodings.{room_fault, table_bytes, FilesRead};
 
 use super::table_in_memory::Table;
-use super::write_parts::{write_blocks, write_directory, write_marks};
 use ruling::Refusal;
 
 const EDITION: u8 = 1;
@@ -30,9 +29,9 @@ fn write_table(table: &Table, file: &mut [u8])
     let (directory, blocks) = rest.split_at_mut(4 * kinds as usize);
     head.copy_from_slice(&[EDITION, states, kinds, 0]);
     ranks.copy_from_slice(table.ranks());
-    write_marks(table, marks);
-    write_directory(table, directory);
-    write_blocks(table, blocks);
+    table.write_marks(marks);
+    table.write_directory(directory);
+    table.write_blocks(blocks);
 }
 
 // Writes the file of a table into the buffer, and answers its length; 13 where the buffer is shorter. What is written passes

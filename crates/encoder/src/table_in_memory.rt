@@ -1,4 +1,4 @@
-ghost use Rattle.std.specs.Prelude.{◌≡◌, ℕ, ◌<◌, ◌≤◌, [], true, cond, length, nat_le, slice_index, slice_index_or};
+ghost use Rattle.std.specs.Prelude.{◌≡◌, ℕ, ◌<◌, ◌≤◌, [], true, cond, length, nat_le, slice_index, slice_index_or, take};
 ghost use Rattle.ruling.specs.KindLists.{Ranks, has_leaf};
 ghost use Rattle.ruling.specs.Meanings.{Complete};
 ghost use Rattle.encoder.specs.Tables.{kinds_held, table_meaning, ruled_table};
@@ -30,7 +30,14 @@ impl Table {
         &self.inner.ranks[..self.inner.count as usize]
     }
 
-    pub(super) fn cell(&self, kind: u8, a: u8, b: u8) -> u8
+    // The marks of its states.
+    pub(super) fn marks(&self) -> &[bool]
+        ensures { result.now ≡ take self.now.inner.states self.now.inner.marks }
+    {
+        &self.inner.marks[..self.inner.states as usize]
+    }
+
+    fn cell(&self, kind: u8, a: u8, b: u8) -> u8
         requires { (kind < 16) × ((a < 32) × (b < 32)) }
         ensures { result ≡ (table_meaning self.now.inner).target kind a b }
     {
@@ -80,10 +87,6 @@ impl Ruling for Table {
     }
 
     fn mark(&self, state: u16) -> Option<bool> {
-        if state < self.states() {
-            Some(self.inner.marks[state as usize])
-        } else {
-            None
-        }
+        self.marks().get(state as usize).copied()
     }
 }

@@ -6,14 +6,6 @@ ghost use Rattle.encoder.specs.Encodings.{table_blocks};
 use super::rows::write_row;
 use super::table_in_memory::Table;
 
-// The marks, one byte a state.
-pub(super) fn write_marks(table: &Table, out: &mut [u8])
-    requires { length out.old ≡ table.now.inner.states }
-    ensures { out.new ≡ row table.now.inner.states (λ s. mark_byte ((table_meaning table.now.inner).mark s)) }
-{
-    write_row(out, |state| u8::from(table.inner.marks[state]));
-}
-
 // A pair of the directory.
 fn pair(offset: usize, cells: usize) -> [u8; 4]
     requires { (offset < 65536) × (cells < 65536) }
@@ -24,36 +16,46 @@ fn pair(offset: usize, cells: usize) -> [u8; 4]
     [a, b, c, d]
 }
 
-// The directory: the pairs of the kinds, in order, with no gaps between the blocks.
-pub(super) fn write_directory(table: &Table, out: &mut [u8])
-    requires { length out.old ≡ 4 * length (kinds_held table.now.inner) }
-    ensures { out.new ≡ directory (body_at table.now.inner.states (length (kinds_held table.now.inner))) (table_blocks table.now.inner) }
-{
-    let mut offset = table.body_at();
-    for kind in 0..table.inner.count as usize {
-        let cells = table.block_len(kind);
-        out[4 * kind..4 * kind + 4].copy_from_slice(&pair(offset, cells));
-        offset += cells;
+impl Table {
+    // The marks, one byte a state.
+    pub(super) fn write_marks(&self, out: &mut [u8])
+        requires { length out.old ≡ self.now.inner.states }
+        ensures { out.new ≡ row self.now.inner.states (λ s. mark_byte ((table_meaning self.now.inner).mark s)) }
+    {
+        write_row(out, |state| u8::from(self.inner.marks[state]));
     }
-}
 
-// The cells of a kind.
-fn write_block(table: &Table, kind: usize, out: &mut [u8])
-    requires { (kind < length (kinds_held table.now.inner)) × (length out.old ≡ length (slice_index_or (table_blocks table.now.inner) kind [])) }
-    ensures { out.new ≡ slice_index_or (table_blocks table.now.inner) kind [] }
-{
-    write_row(out, |place| table.block_cell(kind, place));
-}
+    // The directory: the pairs of the kinds, in order, with no gaps between the blocks.
+    pub(super) fn write_directory(&self, out: &mut [u8])
+        requires { length out.old ≡ 4 * length (kinds_held self.now.inner) }
+        ensures { out.new ≡ directory (body_at self.now.inner.states (length (kinds_held self.now.inner))) (table_blocks self.now.inner) }
+    {
+        let mut offset = self.body_at();
+        for kind in 0..self.inner.count as usize {
+            let cells = self.block_len(kind);
+            out[4 * kind..4 * kind + 4].copy_from_slice(&pair(offset, cells));
+            offset += cells;
+        }
+    }
 
-// The cells of all kinds.
-pub(super) fn write_blocks(table: &Table, out: &mut [u8])
-    requires { length out.old ≡ length (joined (table_blocks table.now.inner)) }
-    ensures { out.new ≡ joined (table_blocks table.now.inner) }
-{
-    let mut from = 0;
-    for kind in 0..table.inner.count as usize {
-        let to = from + table.block_len(kind);
-        write_block(table, kind, &mut out[from..to]);
-        from = to;
+    // The cells of a kind.
+    fn write_block(&self, kind: usize, out: &mut [u8])
+        requires { (kind < length (kinds_held self.now.inner)) × (length out.old ≡ length (slice_index_or (table_blocks self.now.inner) kind [])) }
+        ensures { out.new ≡ slice_index_or (table_blocks self.now.inner) kind [] }
+    {
+        write_row(out, |place| self.block_cell(kind, place));
+    }
+
+    // The cells of all kinds.
+    pub(super) fn write_blocks(&self, out: &mut [u8])
+        requires { length out.old ≡ length (joined (table_blocks self.now.inner)) }
+        ensures { out.new ≡ joined (table_blocks self.now.inner) }
+    {
+        let mut from = 0;
+        for kind in 0..self.inner.count as usize {
+            let to = from + self.block_len(kind);
+            self.write_block(kind, &mut out[from..to]);
+            from = to;
+        }
     }
 }

@@ -1,6 +1,6 @@
 use Rattle.std.proofs.Common.{◌<◌, length, arith, rules}
 use Rattle.encoder.proofs.Parts.{same_bytes}
-use Rattle.encoder.proofs.write_parts.write_block.Goals as goal
+use Rattle.encoder.proofs.table_in_memory.Table.write_block.Goals as goal
 
 pub returns : goal.returns
 returns c = same_bytes _ _ (search rules)

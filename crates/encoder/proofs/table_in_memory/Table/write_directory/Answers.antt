@@ -7,16 +7,16 @@ use Rattle.encoder.specs.Encodings.{table_blocks}
 use Rattle.encoder.proofs.Blocks.{directory_more}
 use Rattle.encoder.proofs.Held.{held_blocks}
 use Rattle.encoder.proofs.Parts.{length_so_far}
-use Rattle.encoder.proofs.write_parts.write_directory.Goals as goal
+use Rattle.encoder.proofs.table_in_memory.Table.write_directory.Goals as goal
 
 pub loop-kind-preserved : goal.loop-kind-preserved
 loop-kind-preserved c =
-    let t = c.args.table.now.inner in
+    let t = c.args.self.now.inner in
     let bs = table_blocks t in
     let k = c.loop-kind.kind in
     let from = body_at t.states (length (kinds_held t)) in
     let i = c.loop-kind.invariant in
-    let n = held_blocks t c.args.table.now.counted in
+    let n = held_blocks t c.args.self.now.counted in
     let l : k < length bs = omega arith in
     let j = length_so_far bs k l in
     let b = c.copy_from_slice.ensures.after ∙ c.pair.ensures in
@@ -30,9 +30,9 @@ loop-kind-preserved c =
 
 pub returns : goal.returns
 returns c =
-    let t = c.args.table.now.inner in
+    let t = c.args.self.now.inner in
     let bs = table_blocks t in
     let from = body_at t.states (length (kinds_held t)) in
-    let n = held_blocks t c.args.table.now.counted in
+    let n = held_blocks t c.args.self.now.counted in
     let i = c.loop-kind.invariant in
     sym (take_all (4 * c.loop-kind.kind) c.loop-kind.out (omega arith)) ∙ (i.2 ∙ ap (directory from) (take_all c.loop-kind.kind bs (omega arith)))
