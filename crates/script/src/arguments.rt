@@ -58,56 +58,59 @@ fn bytes_of(heap: Global, word: &[u8]) -> Result<Option<Vec<u8>>, AllocError>
     hex_bytes(heap, word)
 }
 
-// The one number that is left.
-pub(super) fn one_number(mut words: Words<'_>) -> Option<u32>
-    ensures { result ≡ one_number (words_left words.entry) }
-{
-    match (words.next(), words.next()) {
-        (Some(word), None) => number(word),
-        _ => None,
+// What is left of a line, read as arguments. What takes memory is passed the heap, as the library's own methods are.
+impl Words<'_> {
+    // The one number that is left.
+    pub(super) fn one_number(mut self) -> Option<u32>
+        ensures { result ≡ one_number (words_left self.entry) }
+    {
+        match (self.next(), self.next()) {
+            (Some(word), None) => number(word),
+            _ => None,
+        }
     }
-}
 
-// The three numbers that are left. No struct: the one caller takes them apart at once.
-pub(super) fn three_numbers(mut words: Words<'_>) -> Option<(u32, u32, u32)>
-    ensures { result ≡ three_numbers (words_left words.entry) }
-{
-    let k = number(words.next()?)?;
-    let a = number(words.next()?)?;
-    let b = one_number(words)?;
-    Some((k, a, b))
-}
-
-// The length of a lent stack.
-fn room_of(mut words: Words<'_>) -> Option<u32>
-    ensures { result ≡ room_in (words_left words.entry) }
-{
-    match (words.next(), words.next()) {
-        (None, _) => Some(LONG_ENOUGH),
-        (Some(word), None) => number(word),
-        (Some(_), Some(_)) => None,
+    // The three numbers that are left. No struct: the one caller takes them apart at once.
+    pub(super) fn three_numbers(mut self) -> Option<(u32, u32, u32)>
+        ensures { result ≡ three_numbers (words_left self.entry) }
+    {
+        let k = number(self.next()?)?;
+        let a = number(self.next()?)?;
+        let b = self.one_number()?;
+        Some((k, a, b))
     }
-}
 
-// The one word of bytes that is left.
-pub(super) fn one_bytes(heap: Global, mut words: Words<'_>) -> Result<Option<Vec<u8>>, AllocError>
-    ensures { IfOk result (λ o. option_map vec_items o ≡ one_bytes (words_left words.entry)) }
-{
-    match (words.next(), words.next()) {
-        (Some(word), None) => bytes_of(heap, word),
-        _ => Ok(None),
+    // The length of a lent stack.
+    fn room(mut self) -> Option<u32>
+        ensures { result ≡ room_in (words_left self.entry) }
+    {
+        match (self.next(), self.next()) {
+            (None, _) => Some(LONG_ENOUGH),
+            (Some(word), None) => number(word),
+            (Some(_), Some(_)) => None,
+        }
     }
-}
 
-// The bytes that are left, and the length of a lent stack. No struct: each caller takes them apart at once.
-pub(super) fn bytes_and_room(
-    heap: Global,
-    mut words: Words<'_>,
-) -> Result<Option<(Vec<u8>, u32)>, AllocError>
-    ensures { IfOk result (λ o. option_map (λ p. (p.0.items, p.1)) o ≡ bytes_and_room (words_left words.entry)) }
-{
-    let (Some(word), Some(room)) = (words.next(), room_of(words)) else {
-        return Ok(None);
-    };
-    Ok(bytes_of(heap, word)?.map(|bytes| (bytes, room)))
+    // The one word of bytes that is left.
+    pub(super) fn one_bytes(mut self, heap: Global) -> Result<Option<Vec<u8>>, AllocError>
+        ensures { IfOk result (λ o. option_map vec_items o ≡ one_bytes (words_left self.entry)) }
+    {
+        match (self.next(), self.next()) {
+            (Some(word), None) => bytes_of(heap, word),
+            _ => Ok(None),
+        }
+    }
+
+    // The bytes that are left, and the length of a lent stack. No struct: each caller takes them apart at once.
+    pub(super) fn bytes_and_room(
+        mut self,
+        heap: Global,
+    ) -> Result<Option<(Vec<u8>, u32)>, AllocError>
+        ensures { IfOk result (λ o. option_map (λ p. (p.0.items, p.1)) o ≡ bytes_and_room (words_left self.entry)) }
+    {
+        let (Some(word), Some(room)) = (self.next(), self.room()) else {
+            return Ok(None);
+        };
+        Ok(bytes_of(heap, word)?.map(|bytes| (bytes, room)))
+    }
 }

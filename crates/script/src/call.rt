@@ -51,7 +51,7 @@ pub enum Call {
     Mark(u32),
 }
 
-// What a line says: nothing, no call, or a call.
+// What a line says: nothing, no call, or a call. By names of its own: an Option in an Option would not tell the first two apart.
 #[derive(Debug, PartialEq, Eq, Drop)]
 pub enum Line {
     Blank,

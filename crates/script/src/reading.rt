@@ -3,7 +3,6 @@ ghost use Rattle.std.specs.Option.{option_map};
 ghost use Rattle.script.specs.Left.{words_left};
 ghost use Rattle.script.specs.Calls.{verb_of, order_of, line_says, order_in, said_by};
 
-use super::arguments::{bytes_and_room, one_bytes, one_number, three_numbers};
 use super::call::{Call, Line, Verb};
 use super::words::Words;
 use std::alloc::{AllocError, Global};
@@ -20,15 +19,21 @@ fn read_call(heap: Global, verb: Verb, mut words: Words<'_>) -> Result<Option<Ca
     ensures { IfOk result (λ o. option_map order_in o ≡ order_of verb (words_left words.entry)) }
 {
     Ok(match verb {
-        Verb::Table => one_bytes(heap, words)?.map(Call::Table),
-        Verb::Judge => bytes_and_room(heap, words)?.map(|(bytes, room)| Call::Judge(bytes, room)),
+        Verb::Table => words.one_bytes(heap)?.map(Call::Table),
+        Verb::Judge => words
+            .bytes_and_room(heap)?
+            .map(|(bytes, room)| Call::Judge(bytes, room)),
         Verb::Measure => {
-            bytes_and_room(heap, words)?.map(|(bytes, room)| Call::Measure(bytes, room))
+            words
+                .bytes_and_room(heap)?
+                .map(|(bytes, room)| Call::Measure(bytes, room))
         }
         Verb::States => words.next().is_none().then_some(Call::States),
-        Verb::Rank => one_number(words).map(Call::Rank),
-        Verb::Target => three_numbers(words).map(|(kind, a, b)| Call::Target(kind, a, b)),
-        Verb::Mark => one_number(words).map(Call::Mark),
+        Verb::Rank => words.one_number().map(Call::Rank),
+        Verb::Target => words
+            .three_numbers()
+            .map(|(kind, a, b)| Call::Target(kind, a, b)),
+        Verb::Mark => words.one_number().map(Call::Mark),
     })
 }
 

@@ -9,7 +9,7 @@ use ruling::{Refusal, Ruling, kinds_of};
 use script::Answer;
 use std::alloc::{AllocError, Global};
 
-// Judges a record with a lent stack of this length.
+// Judges a record with a lent stack of this length. The stack is made here and for measuring, a line each: the slots differ.
 pub(super) fn ask_judge<R: Ruling>(
     heap: Global,
     ruling: &R,
