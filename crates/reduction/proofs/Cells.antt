@@ -8,7 +8,7 @@ use Rattle.encoder.specs.Tables.{cell_place}
 use Rattle.encoder.proofs.Copies.{fits_small}
 use Rattle.reduction.specs.Numbering.{Spans}
 use Rattle.reduction.specs.Filling.{cell_at, CellFilled, Filling, AllFilled}
-use Rattle.ruling.proofs.ArgumentLists.{fits_kind, told_fits}
+use Rattle.ruling.proofs.ArgumentLists.{fits_kind, told_fits, fits_targeted}
 use Rattle.reduction.proofs.Numbers.{before_cell, before_row, before_block}
 
 -- The kind and the children of a place.
@@ -18,6 +18,11 @@ place_parts c k a b p q =
     let y : cell_place k a b / 32 % 32 ≡ a = omega arith in
     let z : cell_place k a b % 32 ≡ b = omega arith in
     ap (λ i. unwrap_or (targeted c i (cell_place k a b / 32 % 32) (cell_place k a b % 32)) 0) x ∙ ap₂ (λ i j. unwrap_or (targeted c k i j) 0) y z
+
+-- The cell of an argument list is its target.
+pub cell_target : (c : Meaning) (k a b : ℕ) → c.states ≤ 32 → Fits c.kinds c.states k a b → cell_at c (cell_place k a b) ≡ c.target k a b
+cell_target c k a b few f = let w = fits_small c.kinds c.states k a b few f in
+    place_parts c k a b w.0 w.1 ∙ ap (λ o. unwrap_or o 0) (fits_targeted c k a b f)
 
 pub cell_room : (w : Ruled) (s k a b n : ℕ) → n ≡ 16384 → s ≤ 32 → Fits w.plain.kinds s k a b → cell_place k a b < n
 cell_room w s k a b n e few f = let v = fits_small w.plain.kinds s k a b few f in
