@@ -168,12 +168,8 @@ known_below h f = ∥∥₁_elim h le_prop f
 pub known_equal : {A : Type 0} {x y : ℕ} → ∥ A ∥₁ → (A → x ≡ y) → x ≡ y
 known_equal h f = ∥∥₁_elim h (ℕ_set _ _) f
 
-pub live_below : (w : Ruled) (class leader live xs : List ℕ) → xs ≡ live → ∥ Sorted w.plain class leader live ∥₁ → All (λ s. s < w.plain.states) xs
-live_below w class leader live xs e sorted = subst (All (λ s. s < w.plain.states)) (sym e)
-    (λ k d h. known_below sorted (λ z. reached_below w (get_or live k d) (z.lives.reached k d h)))
-
-pub live_small : (w : Ruled) (class leader live xs : List ℕ) → xs ≡ live → ∥ Sorted w.plain class leader live ∥₁ → All (λ s. s < 1089) xs
-live_small w class leader live xs e sorted k d h = omega (arith, live_below w class leader live xs e sorted k d h, w.few)
+pub live_below : (w : Ruled) (class leader live : List ℕ) → ∥ Sorted w.plain class leader live ∥₁ → All (λ s. s < w.plain.states) live
+live_below w class leader live sorted k d h = known_below sorted (λ z. reached_below w (get_or live k d) (z.lives.reached k d h))
 
 -- Every member of a class is alone where no state is live.
 pub none_live : (m : Meaning) (class live : List ℕ) → length live ≡ 0 → Lives m class live → AllEven m class

@@ -4,7 +4,7 @@ ghost use Rattle.reduction.specs.Searching.{Listing};
 
 use super::division::Division;
 use super::keys::keys_of;
-use super::live::still_live;
+use super::live::Live;
 use super::partition::Partition;
 use super::questions::mark_of;
 use arrayvec::ArrayVec;
@@ -31,16 +31,17 @@ impl<'a, R: Ruling> Division<'a, R> {
         requires { Listing (R.Ruling.meaning ruling.now).plain list.now }
         ensures { result.ruling ≡ ruling.entry }
     {
+        let live = Live::all(list);
         let keys = keys_of(
-            list,
+            &live,
             |state| -> u16
                 requires { state < (R.Ruling.meaning ruling.now).plain.states }
                 ensures { result ≡ mark_key (R.Ruling.meaning ruling.entry.now).plain state }
             { u16::from(mark_of(ruling, state)) },
         );
         let mut partition = Partition::whole(list[0]);
-        partition.split(list, &keys);
-        let live = still_live(list, &partition);
+        partition.split(&live, &keys);
+        let live = live.still_live(&partition);
         Division {
             ruling,
             partition,

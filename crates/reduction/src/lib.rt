@@ -14,6 +14,7 @@ mod numbering;
 mod partition;
 mod questions;
 mod refine;
+mod refresh;
 mod spans;
 mod split;
 mod sweep;

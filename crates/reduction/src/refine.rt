@@ -124,7 +124,7 @@ impl<'a, R: Ruling> Division<'a, R> {
         let mut quiet = 0;
         let mut next = 0;
         // By place: each division lengthens the walk, so no iterator has the number of its steps.
-        while !self.live.is_empty() && quiet < list.len() {
+        while !self.live.states.is_empty() && quiet < list.len() {
             let divided = self.meet_brother(list, next);
             quiet = quiet_after(divided, quiet);
             next = (next + 1) % list.len();

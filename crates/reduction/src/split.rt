@@ -1,15 +1,15 @@
-ghost use Rattle.std.specs.Prelude.{◌≡◌, ℕ, ◌+◌, ◌<◌, ◌≤◌, not, length, ◌==◌, All, Contains, slice_index};
+ghost use Rattle.std.specs.Prelude.{◌≡◌, ℕ, ◌+◌, ◌<◌, ◌≤◌, not, length, ◌==◌, Contains, slice_index};
 ghost use Rattle.reduction.specs.Dividing.{Moved};
 ghost use Rattle.reduction.specs.Divisions.{Unchanged, LevelFor, LevelOf, SplitOf};
 
+use super::live::Live;
 use super::partition::Partition;
 
 // Moves the live states of class `from` with key `value` to class `to`.
-fn part(live: &[u16], class: &mut [u16; 1089], key: &[u16; 1089], from: u16, value: u16, to: u16)
-    requires { All (λ s. s < 1089) live.now }
-    ensures { Moved live.now key.now class.old from value to class.new }
+fn part(live: &Live, class: &mut [u16; 1089], key: &[u16; 1089], from: u16, value: u16, to: u16)
+    ensures { Moved live.now.states.items key.now class.old from value to class.new }
 {
-    for state in live {
+    for state in live.states.as_slice() {
         let state = *state as usize;
         if class[state] == from && key[state] == value {
             class[state] = to;
@@ -28,11 +28,10 @@ impl Partition {
     }
 
     // Makes a class of the live states with the class and the key of this one, which leads it.
-    fn divide(&mut self, live: &[u16], key: &[u16; 1089], state: u16)
-        requires live { All (λ s. s < 1089) live.now }
-        requires state { Contains live.now state }
+    fn divide(&mut self, live: &Live, key: &[u16; 1089], state: u16)
+        requires state { Contains live.now.states.items state }
         requires odd { ¬ LevelFor key.now self.old state }
-        ensures split { SplitOf live.now key.now self.old self.new }
+        ensures split { SplitOf live.now.states.items key.now self.old self.new }
         ensures one { length self.new.leader.items ≡ length self.old.leader.items + 1 }
         ensures level { LevelFor key.now self.new state }
         ensures kept { (p : ℕ) → LevelFor key.now self.old p → LevelFor key.now self.new p }
@@ -45,10 +44,9 @@ impl Partition {
     }
 
     // Divides the class of a live state, if its key is not the leader's.
-    fn look(&mut self, live: &[u16], key: &[u16; 1089], state: u16)
-        requires live { All (λ s. s < 1089) live.now }
-        requires state { Contains live.now state }
-        ensures split { SplitOf live.now key.now self.old self.new }
+    fn look(&mut self, live: &Live, key: &[u16; 1089], state: u16)
+        requires { Contains live.now.states.items state }
+        ensures split { SplitOf live.now.states.items key.now self.old self.new }
         ensures still { length self.new.leader.items ≡ length self.old.leader.items → Unchanged self.old self.new }
         ensures level { LevelFor key.now self.new state }
         ensures kept { (p : ℕ) → LevelFor key.now self.old p → LevelFor key.now self.new p }
@@ -59,13 +57,12 @@ impl Partition {
     }
 
     // Divides each class by the keys of its live members: those with the leader's key stay.
-    pub(super) fn split(&mut self, live: &[u16], key: &[u16; 1089])
-        requires { All (λ s. s < 1089) live.now }
-        ensures split { SplitOf live.now key.now self.old self.new }
+    pub(super) fn split(&mut self, live: &Live, key: &[u16; 1089])
+        ensures split { SplitOf live.now.states.items key.now self.old self.new }
         ensures still { length self.new.leader.items ≡ length self.old.leader.items → Unchanged self.old self.new }
-        ensures level { LevelOf live.now key.now self.new }
+        ensures level { LevelOf live.now.states.items key.now self.new }
     {
-        for state in live {
+        for state in live.states.as_slice() {
             self.look(live, key, *state);
         }
     }

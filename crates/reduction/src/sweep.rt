@@ -5,7 +5,6 @@ ghost use Rattle.reduction.specs.Divisions.{meant_by, Finer};
 use super::context::Context;
 use super::division::Division;
 use super::keys::keys_of;
-use super::live::still_live;
 use super::questions::target_of;
 use ruling::Ruling;
 
@@ -28,7 +27,7 @@ impl<'a, R: Ruling> Division<'a, R> {
     // The class that each live state leads to in a context.
     fn classes_ahead(&self, context: Context) -> [u16; 1089]
         requires { IsContext (meant_by self.now) context }
-        ensures { Keys (class_key (meant_by self.now) self.now.partition.class context) self.now.live.items result }
+        ensures { Keys (class_key (meant_by self.now) self.now.partition.class context) self.now.live.states.items result }
     {
         let ruling = self.ruling;
         let class = &self.partition.class;
@@ -51,7 +50,7 @@ impl<'a, R: Ruling> Division<'a, R> {
         let key = self.classes_ahead(context);
         self.partition.split(&self.live, &key);
         if self.partition.count() != before {
-            self.live = still_live(&self.live, &self.partition);
+            self.live = self.live.still_live(&self.partition);
         }
     }
 }

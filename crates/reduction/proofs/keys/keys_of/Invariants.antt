@@ -3,6 +3,6 @@ use Rattle.reduction.proofs.keys.keys_of.Given as goal
 
 abbrev pub invariant-loop-state : goal.invariant-loop-state
 invariant-loop-state g l = record {
-  answered : (k : ℕ) → k < l.state-index → goal.F-post g l.key_of (get_or l.live k 0) (get_or l.keys (get_or l.live k 0) 0);
+  answered : (k : ℕ) → k < l.state-index → goal.F-post g l.key_of (get_or l.live.states.items k 0) (get_or l.keys (get_or l.live.states.items k 0) 0);
   long : length l.keys ≡ 1089;
 }

@@ -31,11 +31,11 @@ pub returns-else-quiet-list-clause-even : goal.returns-else-quiet-list-clause-ev
 returns-else-quiet-list-clause-even g c =
     let p = c.loop-self.self.partition in
     known_rest (g.R.Ruling.meaning c.args.self.now.ruling.now) _ _ _ _ c.requires
-    (subst (λ r. ∥ Sorted (g.R.Ruling.meaning r.now).plain p.class p.leader.items c.loop-self.self.live.items ∥₁) c.loop-self.invariant.same c.loop-self.self.sorted)
+    (subst (λ r. ∥ Sorted (g.R.Ruling.meaning r.now).plain p.class p.leader.items c.loop-self.self.live.states.items ∥₁) c.loop-self.invariant.same c.loop-self.self.sorted)
     c.loop-self.invariant.even (resting_all _ _ _ _ _ _ _ c.loop-self.invariant.place (omega arith) c.loop-self.invariant.rests)
 
 pub returns-after-loop-self-clause-even : goal.returns-after-loop-self-clause-even
 returns-after-loop-self-clause-even g c =
     let p = c.loop-self.self.partition in
-    known_none (g.R.Ruling.meaning c.args.self.now.ruling.now).plain _ p.leader.items c.loop-self.self.live.items (eqb-true _ _ (sym c.is_empty.ensures ∙ c.loop-self-test.false))
-    (subst (λ r. ∥ Sorted (g.R.Ruling.meaning r.now).plain p.class p.leader.items c.loop-self.self.live.items ∥₁) c.loop-self.invariant.same c.loop-self.self.sorted)
+    known_none (g.R.Ruling.meaning c.args.self.now.ruling.now).plain _ p.leader.items c.loop-self.self.live.states.items (eqb-true _ _ (sym c.is_empty.ensures ∙ c.loop-self-test.false))
+    (subst (λ r. ∥ Sorted (g.R.Ruling.meaning r.now).plain p.class p.leader.items c.loop-self.self.live.states.items ∥₁) c.loop-self.invariant.same c.loop-self.self.sorted)

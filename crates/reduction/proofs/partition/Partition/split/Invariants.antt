@@ -4,7 +4,7 @@ use Rattle.reduction.proofs.partition.Partition.split.Given as goal
 
 abbrev pub invariant-loop-state : goal.invariant-loop-state
 invariant-loop-state l = record {
-  split : SplitOf l.live l.key l.initial.self l.self;
+  split : SplitOf l.live.states.items l.key l.initial.self l.self;
   still : length l.self.leader.items ≡ length l.initial.self.leader.items → Unchanged l.initial.self l.self;
-  level : LevelOf (take l.state-index l.live) l.key l.self;
+  level : LevelOf (take l.state-index l.state-items) l.key l.self;
 }
