@@ -3,7 +3,7 @@ ghost use Rattle.reduction.specs.Dividing.{mark_key, Whole};
 ghost use Rattle.reduction.specs.Searching.{Listing};
 
 use super::division::Division;
-use super::keys::keys_of;
+use super::keys::read_keys;
 use super::live::Live;
 use super::partition::Partition;
 use super::questions::mark_of;
@@ -32,12 +32,14 @@ impl<'a, R: Ruling> Division<'a, R> {
         ensures { result.ruling ≡ ruling.entry }
     {
         let live = Live::all(list);
-        let keys = keys_of(
+        let mut keys = [0; 1089];
+        read_keys(
             &live,
             |state| -> u16
                 requires { state < (R.Ruling.meaning ruling.now).plain.states }
                 ensures { result ≡ mark_key (R.Ruling.meaning ruling.entry.now).plain state }
             { u16::from(mark_of(ruling, state)) },
+            &mut keys,
         );
         let mut partition = Partition::whole(list[0]);
         partition.split(&live, &keys);
@@ -46,6 +48,7 @@ impl<'a, R: Ruling> Division<'a, R> {
             ruling,
             partition,
             live,
+            keys,
         }
     }
 }

@@ -1,10 +1,10 @@
 ghost use Rattle.std.specs.Prelude.{◌≡◌, ◌<◌};
-ghost use Rattle.reduction.specs.Dividing.{IsContext, stepped, Keys, class_key, Even};
+ghost use Rattle.reduction.specs.Dividing.{IsContext, stepped, class_key, Even};
 ghost use Rattle.reduction.specs.Divisions.{meant_by, Finer};
 
 use super::context::Context;
 use super::division::Division;
-use super::keys::keys_of;
+use super::keys::read_keys;
 use super::questions::target_of;
 use ruling::Ruling;
 
@@ -24,31 +24,24 @@ impl Context {
 }
 
 impl<'a, R: Ruling> Division<'a, R> {
-    // The class that each live state leads to in a context.
-    fn classes_ahead(&self, context: Context) -> [u16; 1089]
-        requires { IsContext (meant_by self.now) context }
-        ensures { Keys (class_key (meant_by self.now) self.now.partition.class context) self.now.live.states.items result }
-    {
-        let ruling = self.ruling;
-        let class = &self.partition.class;
-        keys_of(
-            &self.live,
-            |state| -> u16
-                requires context { IsContext (R.Ruling.meaning ruling.now).plain context }
-                requires state { state < (R.Ruling.meaning ruling.now).plain.states }
-                ensures { result ≡ class_key (R.Ruling.meaning ruling.entry.now).plain class.entry.now context state }
-            { class[context.onward(ruling, state) as usize] },
-        )
-    }
-
     // Divides every class by where its members lead in a context; all keys are read before any class is written.
     pub(super) fn sweep(&mut self, context: Context)
         requires { IsContext (meant_by self.old) context }
         ensures { Finer self.old self.new (λ class leader. Even (meant_by self.old) class context) }
     {
         let before = self.partition.count();
-        let key = self.classes_ahead(context);
-        self.partition.split(&self.live, &key);
+        let ruling = self.ruling;
+        let class = &self.partition.class;
+        read_keys(
+            &self.live,
+            |state| -> u16
+                requires context { IsContext (R.Ruling.meaning ruling.now).plain context }
+                requires state { state < (R.Ruling.meaning ruling.now).plain.states }
+                ensures { result ≡ class_key (R.Ruling.meaning ruling.entry.now).plain class.entry.now context state }
+            { class[context.onward(ruling, state) as usize] },
+            &mut self.keys,
+        );
+        self.partition.split(&self.live, &self.keys);
         if self.partition.count() != before {
             self.live = self.live.still_live(&self.partition);
         }

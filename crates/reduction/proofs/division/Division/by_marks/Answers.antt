@@ -8,8 +8,8 @@ all-live-requires g c =
     let w = g.R.Ruling.meaning c.args.ruling.now in
     record { few = omega (arith, c.requires.few, w.few); small = listed_small w _ c.requires }
 
-pub keys_of-keys-requires : goal.keys_of-keys-requires
-keys_of-keys-requires g c =
+pub read_keys-requires : goal.read_keys-requires
+read_keys-requires g c =
     let w = g.R.Ruling.meaning c.args.ruling.now in
     subst (All (λ s. s < w.plain.states)) (sym c.all-live.ensures) (listed_below w _ c.requires)
 
@@ -23,7 +23,7 @@ invariant_of-result g c =
     let hit = c.requires.reached 0 c.requires.some in
     record {
       sorted = ∣ record {
-        classed = marks_classed m _ _ _ _ all hit c.whole-partition.ensures _ _ _ c.keys_of-keys.ensures c.split.ensures.split c.split.new.self.parts c.split.ensures.level;
-        lives = fewer_lives m _ _ _ (marks_lives m _ _ _ _ all hit c.whole-partition.ensures _ _ _ c.keys_of-keys.ensures c.split.ensures.split) c.still_live-live.ensures;
+        classed = marks_classed m _ _ _ _ all hit c.whole-partition.ensures _ _ _ c.read_keys.ensures c.split.ensures.split c.split.new.self.parts c.split.ensures.level;
+        lives = fewer_lives m _ _ _ (marks_lives m _ _ _ _ all hit c.whole-partition.ensures _ _ _ c.read_keys.ensures c.split.ensures.split) c.still_live-live.ensures;
       } ∣₁;
     }

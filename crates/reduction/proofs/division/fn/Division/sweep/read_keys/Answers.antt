@@ -1,6 +1,6 @@
 use Rattle.std.proofs.Common.{arith}
 use Rattle.reduction.proofs.Dividing.{stepped_fits}
-use Rattle.reduction.proofs.division.fn.Division.classes_ahead.keys_of.Goals as goal
+use Rattle.reduction.proofs.division.fn.Division.sweep.read_keys.Goals as goal
 
 pub bounds-class-onward : goal.bounds-class-onward
 bounds-class-onward g c =
