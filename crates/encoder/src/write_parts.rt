@@ -46,7 +46,7 @@ impl Table {
         write_row(out, |place| self.block_cell(kind, place));
     }
 
-    // The cells of all kinds.
+    // The cells of all kinds. By place, since the blocks differ in length.
     pub(super) fn write_blocks(&self, out: &mut [u8])
         requires { length out.old ≡ length (joined (table_blocks self.now.inner)) }
         ensures { out.new ≡ joined (table_blocks self.now.inner) }
