@@ -2,13 +2,13 @@
 use Rattle.std.proofs.Common.{◌≡◌, ℕ, ◌+◌, ◌/◌, ◌%◌, ◌<◌, ◌≤◌, Bool, true, false, cond, ◌&&◌, ltb, ◌⊎◌, List, length, get_or, set, Some, None, unwrap_or, sym, refl, ap, ◌∙◌, subst, ap₂, inl, inr, arith, get_or-set_other, get_or-set_same}
 use native.Mathlib.Decide.{ℕ_discrete}
 use Rattle.ruling.specs.Meanings.{Meaning, Fits}
-use Rattle.ruling.specs.Questions.{fitting, targeted, marked}
+use Rattle.ruling.specs.Questions.{fitting, targeted}
 use Rattle.ruling.specs.Rulings.{Ruled}
 use Rattle.encoder.specs.Tables.{cell_place}
 use Rattle.encoder.proofs.Copies.{fits_small}
 use Rattle.reduction.specs.Numbering.{Spans}
-use Rattle.reduction.specs.Filling.{cell_at, CellFilled, Filling, AllFilled, MarksFilled}
-use Rattle.ruling.proofs.ArgumentLists.{fits_kind, told_fits, state_marked}
+use Rattle.reduction.specs.Filling.{cell_at, CellFilled, Filling, AllFilled}
+use Rattle.ruling.proofs.ArgumentLists.{fits_kind, told_fits, fits_targeted}
 use Rattle.reduction.proofs.Numbers.{before_cell, before_row, before_block}
 
 -- The kind and the children of a place.
@@ -18,6 +18,11 @@ place_parts c k a b p q =
     let y : cell_place k a b / 32 % 32 ≡ a = omega arith in
     let z : cell_place k a b % 32 ≡ b = omega arith in
     ap (λ i. unwrap_or (targeted c i (cell_place k a b / 32 % 32) (cell_place k a b % 32)) 0) x ∙ ap₂ (λ i j. unwrap_or (targeted c k i j) 0) y z
+
+-- The cell of an argument list is its target.
+pub cell_target : (c : Meaning) (k a b : ℕ) → c.states ≤ 32 → Fits c.kinds c.states k a b → cell_at c (cell_place k a b) ≡ c.target k a b
+cell_target c k a b few f = let w = fits_small c.kinds c.states k a b few f in
+    place_parts c k a b w.0 w.1 ∙ ap (λ o. unwrap_or o 0) (fits_targeted c k a b f)
 
 pub cell_room : (w : Ruled) (s k a b n : ℕ) → n ≡ 16384 → s ≤ 32 → Fits w.plain.kinds s k a b → cell_place k a b < n
 cell_room w s k a b n e few f = let v = fits_small w.plain.kinds s k a b few f in
@@ -67,15 +72,6 @@ module _ (w : Ruled) (c : Meaning) (same : c.kinds ≡ w.plain.kinds) (few : c.s
       go (inr x) false e = x ∙ sym (ap (λ z. unwrap_or (cond z (Some (c.target (i / 1024) (i / 32 % 32) (i % 32))) None) 0) e)
       go (inr x) true e = subst (λ j. get_or cells j 0 ≡ cell_at c j) back
           (f.done (i / 1024) (i / 32 % 32) (i % 32) (told_fits c.kinds c.states (i / 1024) (i / 32 % 32) (i % 32) e) (inl (omega (arith, fits_kind c.kinds c.states _ _ _ (told_fits c.kinds c.states (i / 1024) (i / 32 % 32) (i % 32) e), ap length same, w.list.1))))
-
--- One mark more.
-pub marks_more : (c : Meaning) (marks : List Bool) (n : ℕ) (v : Bool) → n < length marks → n < c.states → v ≡ c.mark n → MarksFilled c marks n → MarksFilled c (set marks n v) (n + 1)
-marks_more c marks n v room h e done s l = go (ℕ_discrete s n)
-  where
-    go : Dec (s ≡ n) → get_or (set marks n v) s false ≡ unwrap_or (marked c s) false
-    go (yes d) = subst (λ j. get_or (set marks n v) j false ≡ unwrap_or (marked c j) false) (sym d)
-        (get_or-set_same marks n v false room ∙ (e ∙ sym (ap (λ o. unwrap_or o false) (state_marked c n h))))
-    go (no d) = get_or-set_other marks n s v false d ∙ done s (omega arith)
 
 -- The place may be given as it was reckoned.
 pub filling_at : (c : Meaning) (cells : List ℕ) (k a b v i : ℕ) → i ≡ cell_place k a b → cell_place k a b < length cells → v ≡ cell_at c (cell_place k a b)

@@ -10,7 +10,7 @@ use Rattle.ruling.proofs.Folding.{Folds, fold_agrees, fold_reduced}
 use Rattle.ruling.proofs.TablesOf.{table_of_each}
 use Rattle.encoder.specs.declared.table_data.TableData.{TableData}
 use Rattle.encoder.specs.Tables.{kinds_held, table_meaning, CopyOf}
-use Rattle.encoder.proofs.Copies.{held_kinds, held_count, held_mark, held_target, clean}
+use Rattle.encoder.proofs.Copies.{held_kinds, held_count, held_mark, held_target}
 use Rattle.reduction.specs.Searching as searching
 use Rattle.ruling.specs.declared.ruling.Ruling.{Ghosts}
 use Rattle.reduction.specs.declared.numbering.Numbering.{Numbering}
@@ -94,9 +94,6 @@ module _ {R : Type 0} {G : Ghosts R} (n : Numbering R G) (num : NumberedBy n) (c
   whole_table = made_table w _ _ num.classes n.classes _ _ n.few num.numbered closed (table_meaning t) kinds copy.states
       (held_mark (meaning_by n) t w.list.1 n.few long copy)
       (held_target (meaning_by n) t w.list.1 n.few long copy)
-
-  pub whole_clean : CopyOf (table_meaning t) t
-  whole_clean = clean (meaning_by n) t w.list.1 n.few long copy
 
   pub whole_counted : length (kinds_held t) ≡ t.count
   whole_counted = held_count (meaning_by n) t w.list.1 n.few long copy

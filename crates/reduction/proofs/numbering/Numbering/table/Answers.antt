@@ -1,5 +1,5 @@
 use Rattle.std.proofs.Common.{arith}
-use Rattle.reduction.proofs.TableMade.{whole_table, whole_clean, whole_counted, whole_ranks, whole_leaf, whole_complete, whole_some}
+use Rattle.reduction.proofs.TableMade.{whole_table, whole_counted, whole_ranks, whole_leaf, whole_complete, whole_some}
 use Rattle.reduction.proofs.numbering.Numbering.table.Goals as goal
 
 pub invariant_of-result : goal.invariant_of-result
@@ -18,16 +18,5 @@ invariant_of-result g c =
       complete = whole_complete c.args.self.now c.requires.numbered c.requires.closed t (omega arith) copy;
     }
 
-pub returns : goal.returns
-returns g c =
-    let t = c.table_data.result in
-    let copy = c.table_data.ensures in
-    record {
-      table = whole_table c.args.self.now c.requires.numbered c.requires.closed t (omega arith) copy;
-      clean = record {
-        copy = whole_clean c.args.self.now c.requires.numbered c.requires.closed t (omega arith) copy;
-        ranks_room = omega arith;
-        marks_room = omega arith;
-        cells_room = omega arith;
-      };
-    }
+pub returns-clause-table : goal.returns-clause-table
+returns-clause-table g c = whole_table c.args.self.now c.requires.numbered c.requires.closed c.table_data.result (omega arith) c.table_data.ensures
