@@ -1,4 +1,4 @@
-ghost use Rattle.std.specs.Prelude.{◌≡◌, ℕ, ◌+◌, ◌<◌, true, None, length, slice_index};
+ghost use Rattle.std.specs.Prelude.{◌≡◌, ℕ, ◌+◌, ◌<◌, true, length};
 ghost use Rattle.ruling.specs.Meanings.{Fits};
 ghost use Rattle.ruling.specs.KindLists.{has_leaf};
 ghost use Rattle.ruling.specs.WrittenTables.{TableOf};
@@ -48,7 +48,7 @@ impl<'a, R: Ruling> Numbering<'a, R> {
         }
     }
 
-    // The cells of all kinds; those of no argument list are 0.
+    // The cells of all kinds; those of no argument list are 0. By argument list: the ruling is asked of nothing else.
     fn cells(&self) -> [u8; 16384]
         ensures { AllFilled (meaning_by self.now) result }
     {

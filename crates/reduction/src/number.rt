@@ -1,4 +1,4 @@
-ghost use Rattle.std.specs.Prelude.{◌≡◌, ◌+◌, ◌≤◌, Some, None, length, slice_index};
+ghost use Rattle.std.specs.Prelude.{◌≡◌, ◌+◌, ◌≤◌, length, slice_index};
 ghost use Rattle.ruling.specs.Classes.{Classes};
 ghost use Rattle.reduction.specs.Numberings.{Over, aimed_by, number_by, NumberedBy, OpenedBy, Closed};
 
