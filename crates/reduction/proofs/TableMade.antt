@@ -15,7 +15,7 @@ use Rattle.reduction.specs.Searching as searching
 use Rattle.ruling.specs.declared.ruling.Ruling.{Ghosts}
 use Rattle.reduction.specs.declared.numbering.Numbering.{Numbering}
 use Rattle.reduction.specs.Numbering.{aimed, number_of, Source, Numbered, Opened}
-use Rattle.reduction.specs.Numberings.{NumberedBy, OpenedBy, meaning_by}
+use Rattle.reduction.specs.Numberings.{NumberedBy, Closed, meaning_by}
 use Rattle.reduction.proofs.Bounds.{list_reached}
 use Rattle.reduction.proofs.Searching.{leaf_kind}
 use Rattle.reduction.proofs.Numbers.{aimed_0, aimed_1, aimed_2, aimed_reached, fits_up}
@@ -82,7 +82,7 @@ module _ (w : Ruled) (class : List ℕ) (count : ℕ) (dv : Classes w.plain.kind
   made_table = (table_of_each w.plain c).0 (made_reduced, fold_agrees w.plain c (λ i. get_or rep i 0) kinds folds)
 
 -- The table that holds the numbered classes is the table of the ruling.
-module _ {R : Type 0} {G : Ghosts R} (n : Numbering R G) (num : NumberedBy n) (closed : OpenedBy n None)
+module _ {R : Type 0} {G : Ghosts R} (n : Numbering R G) (num : NumberedBy n) (closed : Closed n)
     (t : TableData) (long : length t.ranks ≡ 16) (copy : CopyOf (meaning_by n) t) where
   abbrev w : Ruled
   w = G.meaning n.ruling.now

@@ -1,5 +1,5 @@
 -- The same of a value of Numbering.
-use Rattle.std.specs.Prelude.{ℕ, length, Option, slice_index}
+use Rattle.std.specs.Prelude.{ℕ, length, None, Option, slice_index}
 use Rattle.ruling.specs.declared.ruling.Ruling.{Ghosts}
 use Rattle.ruling.specs.Meanings.{Meaning, Fits}
 use Rattle.ruling.specs.Classes.{Classes}
@@ -29,8 +29,14 @@ module _ {R : Type 0} {G : Ghosts R} where
     pub classes : Classes (ruled_by n).kinds (ruled_by n) (length n.partition.now.leader.items) (λ p. slice_index n.partition.now.class p)
     pub numbered : Numbered (ruled_by n) n.partition.now.class n.rep.items n.number
 
+  -- The first argument list whose target's class has no number, if there is one.
   abbrev pub OpenedBy : Numbering R G → Option ArgumentList → Type 0
   OpenedBy n o = Opened (ruled_by n) n.partition.now.class n.rep.items n.number o
 
+  -- Every target of numbered classes has a number.
+  abbrev pub Closed : Numbering R G → Type 0
+  Closed n = OpenedBy n None
+
+  -- What the numbered classes mean.
   abbrev pub meaning_by : Numbering R G → Meaning
   meaning_by n = numbered_meaning (ruled_by n) n.partition.now.class n.rep.items n.number

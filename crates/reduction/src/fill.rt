@@ -1,9 +1,9 @@
-ghost use Rattle.std.specs.Prelude.{◌≡◌, ℕ, ◌+◌, ◌<◌, true, None, length, slice_index};
+ghost use Rattle.std.specs.Prelude.{◌≡◌, ℕ, ◌+◌, ◌<◌, true, length};
 ghost use Rattle.ruling.specs.Meanings.{Fits};
 ghost use Rattle.ruling.specs.KindLists.{has_leaf};
 ghost use Rattle.ruling.specs.WrittenTables.{TableOf};
 ghost use Rattle.encoder.specs.Tables.{cell_place, table_meaning, CopyOf, Clean};
-ghost use Rattle.reduction.specs.Numberings.{ruled_by, Over, NumberedBy, OpenedBy, meaning_by};
+ghost use Rattle.reduction.specs.Numberings.{ruled_by, Over, NumberedBy, Closed, meaning_by};
 ghost use Rattle.reduction.specs.Filling.{cell_at, Filling, AllFilled, MarksFilled};
 
 use super::argument_list::ArgumentList;
@@ -48,7 +48,7 @@ impl<'a, R: Ruling> Numbering<'a, R> {
         }
     }
 
-    // The cells of all kinds; those of no argument list are 0.
+    // The cells of all kinds; those of no argument list are 0. By argument list: the ruling is asked of nothing else.
     fn cells(&self) -> [u8; 16384]
         ensures { AllFilled (meaning_by self.now) result }
     {
@@ -87,7 +87,7 @@ impl<'a, R: Ruling> Numbering<'a, R> {
     pub(super) fn table(&self) -> Table
         requires leaf { has_leaf (ruled_by self.now).kinds ≡ true }
         requires numbered { NumberedBy self.now }
-        requires closed { OpenedBy self.now None }
+        requires closed { Closed self.now }
         ensures table { TableOf (ruled_by self.now).kinds (ruled_by self.now) (table_meaning result.inner) }
         ensures clean { Clean result.inner }
     {

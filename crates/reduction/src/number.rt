@@ -1,6 +1,6 @@
-ghost use Rattle.std.specs.Prelude.{◌≡◌, ◌+◌, ◌≤◌, Some, None, length, slice_index};
+ghost use Rattle.std.specs.Prelude.{◌≡◌, ◌+◌, ◌≤◌, length, slice_index};
 ghost use Rattle.ruling.specs.Classes.{Classes};
-ghost use Rattle.reduction.specs.Numberings.{Over, aimed_by, number_by, NumberedBy, OpenedBy};
+ghost use Rattle.reduction.specs.Numberings.{Over, aimed_by, number_by, NumberedBy, OpenedBy, Closed};
 
 use super::argument_list::ArgumentList;
 use super::numbering::Numbering;
@@ -87,7 +87,7 @@ impl<'a, R: Ruling> Numbering<'a, R> {
         requires few { length partition.now.leader.items ≤ 32 }
         ensures same { (result.ruling.now ≡ ruling.now) × (result.partition.now ≡ partition.now) }
         ensures numbered { NumberedBy result }
-        ensures closed { OpenedBy result None }
+        ensures closed { Closed result }
     {
         let mut numbering = Numbering {
             ruling,
