@@ -1,4 +1,4 @@
-ghost use Rattle.std.specs.Prelude.{◌≡◌, ◌+◌, ◌^◌, ◌<◌, ◌≤◌, length};
+ghost use Rattle.std.specs.Prelude.{◌≡◌, ◌+◌, ◌-◌, ◌^◌, ◌<◌, min, length};
 ghost use Rattle.ruling.specs.Checks.{Answers};
 ghost use Rattle.ruling.specs.KindLists.{KindList};
 ghost use Rattle.table.specs.TableFiles.{states_in, kind_count_in, ranks_in, cell_number, offset_at, length_at, word_at, pair_place, pair_fault, directory_fault};
@@ -24,13 +24,11 @@ fn read_word(bytes: &[u8], at: usize) -> usize
     u16::from_le_bytes([bytes[at], bytes[at + 1]]) as usize
 }
 
-// The number of cells of a kind of this rank.
+// The number of cells of a kind of this rank, as far as 64 bits can say it.
 pub fn cell_count(states: usize, rank: u8) -> usize
-    requires { (states ≤ 32) × (rank ≤ 2) }
-    ensures value { result ≡ states ^ rank }
-    ensures few { result ≤ 1024 }
+    ensures { result ≡ min (states ^ rank) (2 ^ 64 - 1) }
 {
-    states.pow(rank as u32)
+    states.saturating_pow(rank as u32)
 }
 
 impl<'a> Head<'a> {
