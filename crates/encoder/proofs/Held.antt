@@ -1,17 +1,14 @@
 -- The blocks of a table in memory.
-use Rattle.std.proofs.Common.{◌≡◌, ℕ, ◌+◌, ◌*◌, ◌/◌, ◌%◌, ◌^◌, ◌<◌, ◌≤◌, Bool, true, false, cond, leb, [], length, get_or, sym, ap, ◌∙◌, ap₂, arith, get_or-take}
-use Rattle.std.proofs.Math.Nat.{div-lt_iff_lt-mul, mod-add-div', mod-lt}
+use Rattle.std.proofs.Common.{◌≡◌, ℕ, ◌+◌, ◌*◌, ◌^◌, ◌<◌, ◌≤◌, cond, leb, [], length, take, drop, get_or, sym, ap, ◌∙◌, ap₂, arith, get_or-take}
+use Rattle.std.proofs.lemmas.List.{get_or-drop, length-drop, length-take-le}
 use Rattle.ruling.specs.KindLists.{Ranks}
 use Rattle.ruling.specs.Written.{row, joined, block}
 use Rattle.encoder.specs.declared.table_data.TableData.{TableData}
-use Rattle.encoder.specs.Tables.{kinds_held, table_meaning}
+use Rattle.encoder.specs.Tables.{cell_place, kinds_held, table_meaning}
 use Rattle.encoder.specs.Encodings.{table_blocks}
-use Rattle.ruling.proofs.Rows.{grid_length, grid_at, blocks_length, blocks_at}
+use Rattle.ruling.proofs.Rows.{grid_length, blocks_length, blocks_at}
 use Rattle.encoder.proofs.Blocks.{block_grid, block_length}
-
-pub span_few : (b : Bool) (n : ℕ) → n ≤ 32 → cond b n 1 ≤ 32
-span_few true n l = l
-span_few false n l = omega arith
+use Rattle.encoder.proofs.Parts.{row_of}
 
 module _ (t : TableData) (counted : length (kinds_held t) ≡ t.count) where
   pub held_rank : (k : ℕ) → k < t.count → get_or (kinds_held t) k 0 ≡ get_or t.ranks k 0
@@ -40,15 +37,8 @@ module _ (t : TableData) (counted : length (kinds_held t) ≡ t.count) where
     pub block_size : p * q ≡ length (get_or (table_blocks t) k [])
     block_size = sym (grid_length p q ((table_meaning t).target k)) ∙ ap length block_rows
 
-    -- a cell's place, taken apart into the two children
-    module _ (i : ℕ) (u : i < length (get_or (table_blocks t) k [])) (z : 0 < q) where
-      pub first_below : i / q < p
-      first_below = let s = block_size in (div-lt_iff_lt-mul z).1 (omega arith)
-
-      pub cell_at : get_or (get_or (table_blocks t) k []) i 0 ≡ (table_meaning t).target k (i / q) (i % q)
-      cell_at =
-          let f = (table_meaning t).target k in
-          let e = mod-add-div' i q in
-          let c : i / q * q + i % q ≡ i = omega arith in
-          sym (ap (λ xs. get_or xs i 0) block_rows) ∙ (sym (ap (λ j. get_or (joined (row p (λ a. row q (λ b. f a b)))) j 0) c)
-          ∙ grid_at p q (i / q) (i % q) f first_below (mod-lt i z))
+  -- the cells of a kind with one first child
+  pub held_row : (k a at q w : ℕ) → at ≡ cell_place k a 0 → w ≡ q → at + q ≤ length t.cells
+      → take w (drop at t.cells) ≡ row q (λ b. (table_meaning t).target k a b)
+  held_row k a at q w e g l = row_of q _ _ (omega (arith, length-take-le w (drop at t.cells), length-drop at t.cells))
+      (λ b u. get_or-take w (drop at t.cells) b 0 (omega arith) ∙ (get_or-drop at t.cells b 0 ∙ ap (λ j. get_or t.cells j 0) (omega arith)))

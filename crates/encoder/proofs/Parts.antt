@@ -1,5 +1,5 @@
 -- The parts of a file, byte by byte and one after another.
-use Rattle.std.proofs.Common.{◌≡◌, ℕ, suc, ◌+◌, ◌<◌, List, [], ◌∷◌, length, get_or, take, sum_by, sym, refl, ap, ◌∙◌, ap₂, add-zero, arith, length-append}
+use Rattle.std.proofs.Common.{◌≡◌, ℕ, zero, suc, ◌+◌, ◌<◌, List, [], ◌∷◌, ◌++◌, length, get_or, take, sum_by, sym, refl, ap, ◌∙◌, ap₂, add-zero, arith, length-append, append_assoc, append-nil}
 use Rattle.std.specs.List.{range_with_len}
 use Rattle.std.proofs.lemmas.List.Sums.{sum_by-cons}
 use Rattle.ruling.specs.Written.{row, joined}
@@ -30,3 +30,14 @@ lengths_added (b ∷ bs) a h e =
   where
     arrange : (a k : ℕ) → a + 1 + k ≡ a + suc k
     arrange a k = omega arith
+
+-- rows one after another, one more
+pub rows_more : (n : ℕ) (g : ℕ → List ℕ) → joined (row (n + 1) g) ≡ joined (row n g) ++ g n
+rows_more n g = ap (λ j. joined (row j g)) (next n) ∙ more n g
+  where
+    next : (n : ℕ) → n + 1 ≡ suc n
+    next n = omega arith
+
+    more : (n : ℕ) (g : ℕ → List ℕ) → joined (row (suc n) g) ≡ joined (row n g) ++ g n
+    more zero g = append-nil (g 0)
+    more (suc n) g = ap (λ xs. g 0 ++ xs) (more n (λ i. g (suc i))) ∙ sym (append_assoc (g 0) (joined (row n (λ i. g (suc i)))) (g (suc n)))

@@ -12,7 +12,6 @@ mod write_parts;
 
 pub use encoding::{encode, encoded_len};
 pub use places::place_of_cell;
+pub use ruling::ranks_of;
 pub use table_data::TableData;
 pub use table_in_memory::Table;
-
-pub use ruling::ranks_of;

@@ -44,26 +44,17 @@ impl Table {
         self.inner.cells[place_of_cell(kind, a, b)]
     }
 
-    // The number of states that a kind's second child takes: all, or the one 0 where it has none.
-    fn seconds(&self, kind: usize) -> usize
+    // The number of states that a kind's child takes, its first or its second: all, or the one 0 where it has no such child.
+    pub(super) fn choices(&self, kind: usize, child: u8) -> usize
         requires { kind < 16 }
-        ensures value { result ≡ cond (nat_le 2 (slice_index self.now.inner.ranks kind)) self.now.inner.states 1 }
+        ensures value { result ≡ cond (nat_le child (slice_index self.now.inner.ranks kind)) self.now.inner.states 1 }
         ensures bounds { (0 < result) × (result ≤ 32) }
     {
-        if self.inner.ranks[kind] >= 2 {
+        if self.inner.ranks[kind] >= child {
             self.inner.states as usize
         } else {
             1
         }
-    }
-
-    // The cell of a kind at a place in its block.
-    pub(super) fn block_cell(&self, kind: usize, place: usize) -> u8
-        requires { (kind < length (kinds_held self.now.inner)) × (place < length (slice_index_or (table_blocks self.now.inner) kind [])) }
-        ensures { result ≡ slice_index (slice_index_or (table_blocks self.now.inner) kind []) place }
-    {
-        let seconds = self.seconds(kind);
-        self.cell(kind as u8, (place / seconds) as u8, (place % seconds) as u8)
     }
 }
 

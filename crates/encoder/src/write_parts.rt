@@ -3,6 +3,7 @@ ghost use Rattle.ruling.specs.Written.{row, joined, mark_byte, low_high, body_at
 ghost use Rattle.encoder.specs.Tables.{kinds_held, table_meaning};
 ghost use Rattle.encoder.specs.Encodings.{table_blocks};
 
+use super::places::place_of_cell;
 use super::rows::write_row;
 use super::table_in_memory::Table;
 
@@ -38,12 +39,17 @@ impl Table {
         }
     }
 
-    // The cells of a kind.
+    // The cells of a kind, a row for each first child.
     fn write_block(&self, kind: usize, out: &mut [u8])
         requires { (kind < length (kinds_held self.now.inner)) × (length out.old ≡ length (slice_index_or (table_blocks self.now.inner) kind [])) }
         ensures { out.new ≡ slice_index_or (table_blocks self.now.inner) kind [] }
     {
-        write_row(out, |place| self.block_cell(kind, place));
+        let seconds = self.choices(kind, 2);
+        for first in 0..self.choices(kind, 1) {
+            let from = first * seconds;
+            let at = place_of_cell(kind as u8, first as u8, 0);
+            out[from..from + seconds].copy_from_slice(&self.inner.cells[at..at + seconds]);
+        }
     }
 
     // The cells of all kinds. By place, since the blocks differ in length.
