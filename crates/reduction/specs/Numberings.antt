@@ -13,15 +13,15 @@ module _ {R : Type 0} {G : Ghosts R} where
   ruled_by n = (G.meaning n.ruling.now).plain
 
   -- An argument list over the numbered classes.
-  abbrev pub Over : Numbering R G → ArgumentList → Type 0
-  Over n list = Fits (ruled_by n).kinds (length n.rep.items) list.kind list.first list.second
+  abbrev pub OverNumbered : Numbering R G → ArgumentList → Type 0
+  OverNumbered n list = Fits (ruled_by n).kinds (length n.rep.items) list.kind list.first list.second
 
   -- Its target, and the number of the target's class.
-  abbrev pub aimed_by : Numbering R G → ArgumentList → ℕ
-  aimed_by n list = aimed (ruled_by n) n.rep.items list.kind list.first list.second
+  abbrev pub aimed_at : Numbering R G → ArgumentList → ℕ
+  aimed_at n list = aimed (ruled_by n) n.rep.items list.kind list.first list.second
 
   abbrev pub number_by : Numbering R G → ArgumentList → Option ℕ
-  number_by n list = number_of n.partition.now.class n.number (aimed_by n list)
+  number_by n list = number_of n.partition.now.class n.number (aimed_at n list)
 
   -- The partition is that into classes, and they are numbered in the order of discovery. No ghost field: it could say only that
   -- there is a proof, and the table's contract takes records and argument lists from it.

@@ -3,7 +3,7 @@ ghost use Rattle.ruling.specs.Meanings.{Fits};
 ghost use Rattle.ruling.specs.KindLists.{has_leaf};
 ghost use Rattle.ruling.specs.WrittenTables.{TableOf};
 ghost use Rattle.encoder.specs.Tables.{cell_place, table_meaning, CopyOf, Clean};
-ghost use Rattle.reduction.specs.Numberings.{ruled_by, Over, NumberedBy, Closed, meaning_by};
+ghost use Rattle.reduction.specs.Numberings.{ruled_by, OverNumbered, NumberedBy, Closed, meaning_by};
 ghost use Rattle.reduction.specs.Filling.{cell_at, Filling, AllFilled, MarksFilled};
 
 use super::argument_list::ArgumentList;
@@ -15,7 +15,7 @@ use ruling::{Ruling, kinds_of};
 impl<'a, R: Ruling> Numbering<'a, R> {
     // The cell of an argument list.
     fn cell(&self, list: ArgumentList) -> u8
-        requires { Over self.now list }
+        requires { OverNumbered self.now list }
         ensures { result ≡ cell_at (meaning_by self.now) (cell_place list.kind list.first list.second) }
     {
         self.number_at(list).unwrap_or(0)

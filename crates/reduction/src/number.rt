@@ -1,6 +1,6 @@
 ghost use Rattle.std.specs.Prelude.{◌≡◌, ◌+◌, ◌≤◌, length, slice_index};
 ghost use Rattle.ruling.specs.Classes.{Classes};
-ghost use Rattle.reduction.specs.Numberings.{Over, aimed_by, number_by, NumberedBy, OpenedBy, Closed};
+ghost use Rattle.reduction.specs.Numberings.{OverNumbered, aimed_at, number_by, NumberedBy, OpenedBy, Closed};
 
 use super::argument_list::ArgumentList;
 use super::numbering::Numbering;
@@ -19,8 +19,8 @@ impl<'a, R: Ruling> Numbering<'a, R> {
 
     // The target of the states that stand for the numbers of an argument list.
     fn aim(&self, list: ArgumentList) -> u16
-        requires { Over self.now list }
-        ensures { result ≡ aimed_by self.now list }
+        requires { OverNumbered self.now list }
+        ensures { result ≡ aimed_at self.now list }
     {
         match self.ruling.rank(list.kind) {
             Some(1) => target_of(self.ruling, list.kind, self.rep[list.first as usize], 0),
@@ -36,7 +36,7 @@ impl<'a, R: Ruling> Numbering<'a, R> {
 
     // The number of the target's class, if it has one.
     pub(super) fn number_at(&self, list: ArgumentList) -> Option<u8>
-        requires { Over self.now list }
+        requires { OverNumbered self.now list }
         ensures { result ≡ number_by self.now list }
     {
         let t = self.aim(list);

@@ -8,7 +8,10 @@ pub(super) fn target_of<R: Ruling>(ruling: &R, kind: u8, a: u16, b: u16) -> u16
     requires { Fits (R.Ruling.meaning ruling.now).plain.kinds (R.Ruling.meaning ruling.now).plain.states kind a b }
     ensures { result ≡ (R.Ruling.meaning ruling.now).plain.target kind a b }
 {
-    ruling.target(kind, a, b).unwrap()
+    let Some(state) = ruling.target(kind, a, b) else {
+        unreachable!();
+    };
+    state
 }
 
 // The mark of what is known to be a state.
@@ -16,5 +19,8 @@ pub(super) fn mark_of<R: Ruling>(ruling: &R, state: u16) -> bool
     requires { state < (R.Ruling.meaning ruling.now).plain.states }
     ensures { result ≡ (R.Ruling.meaning ruling.now).plain.mark state }
 {
-    ruling.mark(state).unwrap()
+    let Some(mark) = ruling.mark(state) else {
+        unreachable!();
+    };
+    mark
 }
