@@ -31,8 +31,8 @@ leaf_told ks r h = go r (has_leaf ks) h
   where
     go : (r : Result (Unit {0}) Refusal) (b : Bool) → Answers (cond b None (Some NoLeafKind)) (λ _. Unit {0}) r → is_ok r ≡ b
     go (Ok x) true h = refl
-    go (Ok x) false h = let e = h.0 in let z : ◌≡◌ {A = ℕ} 0 1 = cc in absurd (omega arith)
-    go (Err x) true h = let z : ◌≡◌ {A = ℕ} 0 1 = cc in absurd (omega arith)
+    go (Ok x) false h = let e = h.0 in cc
+    go (Err x) true h = cc
     go (Err x) false h = refl
 
 -- A table that holds the answers of c means c, and nothing beside.

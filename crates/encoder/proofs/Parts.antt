@@ -1,20 +1,15 @@
 -- The parts of a file, byte by byte and one after another.
 use Rattle.std.proofs.Common.{◌≡◌, ℕ, zero, suc, ◌+◌, ◌<◌, List, [], ◌∷◌, ◌++◌, length, get_or, take, sum_by, sym, refl, ap, ◌∙◌, ap₂, add-zero, arith, length-append, append_assoc, append-nil}
 use Rattle.std.specs.List.{range_with_len}
+use Rattle.std.proofs.lemmas.List.{ext_get_or}
 use Rattle.std.proofs.lemmas.List.Sums.{sum_by-cons}
 use Rattle.ruling.specs.Written.{row, joined}
 use Rattle.ruling.proofs.Rows.{row_length, row_at}
 use Rattle.encoder.proofs.Blocks.{joined_take}
 
--- lists of bytes with the same bytes
-pub same_bytes : (xs ys : List ℕ) → length xs ≡ length ys → ((k : ℕ) → k < length xs → get_or xs k 0 ≡ get_or ys k 0) → xs ≡ ys
-same_bytes [] [] e h = refl
-same_bytes [] (y ∷ ys) e h = absurd (omega arith)
-same_bytes (x ∷ xs) [] e h = absurd (omega arith)
-same_bytes (x ∷ xs) (y ∷ ys) e h = ap₂ ◌∷◌ (h 0 (omega arith)) (same_bytes xs ys (omega arith) (λ k l. h (suc k) (omega arith)))
-
+-- a list with what a row has at each place is the row
 pub row_of : (n : ℕ) (f : ℕ → ℕ) (xs : List ℕ) → length xs ≡ n → ((k : ℕ) → k < n → get_or xs k 0 ≡ f k) → xs ≡ row n f
-row_of n f xs e h = same_bytes xs (row n f) (e ∙ sym (row_length n f)) (λ k l. let u : k < n = omega arith in h k u ∙ sym (row_at n f k 0 u))
+row_of n f xs e h = ext_get_or 0 xs (row n f) (e ∙ sym (row_length n f)) (λ k l. let u : k < n = omega arith in h k u ∙ sym (row_at n f k 0 u))
 
 -- the length of what is joined, added up
 pub length_so_far : (bs : List (List ℕ)) (j : ℕ) → j < length bs → length (joined (take (j + 1) bs)) ≡ length (joined (take j bs)) + length (get_or bs j [])

@@ -4,7 +4,6 @@
 mod copy;
 mod encoding;
 mod places;
-mod rows;
 mod shape;
 mod table_data;
 mod table_in_memory;

@@ -1,8 +1,7 @@
-ghost use Rattle.std.specs.Prelude.{◌≡◌, ℕ, ◌<◌, ◌≤◌, [], true, cond, length, nat_le, slice_index, slice_index_or, take};
+ghost use Rattle.std.specs.Prelude.{◌≡◌, ◌<◌, ◌≤◌, true, cond, length, nat_le, slice_index, take};
 ghost use Rattle.ruling.specs.KindLists.{Ranks, has_leaf};
 ghost use Rattle.ruling.specs.Meanings.{Complete};
 ghost use Rattle.encoder.specs.Tables.{kinds_held, table_meaning, ruled_table};
-ghost use Rattle.encoder.specs.Encodings.{table_blocks};
 
 use super::places::place_of_cell;
 use super::table_data::TableData;

@@ -4,7 +4,6 @@ ghost use Rattle.encoder.specs.Tables.{kinds_held, table_meaning};
 ghost use Rattle.encoder.specs.Encodings.{table_blocks};
 
 use super::places::place_of_cell;
-use super::rows::write_row;
 use super::table_in_memory::Table;
 
 // A pair of the directory.
@@ -23,7 +22,9 @@ impl Table {
         requires { length out.old ≡ self.now.inner.states }
         ensures { out.new ≡ row self.now.inner.states (λ s. mark_byte ((table_meaning self.now.inner).mark s)) }
     {
-        write_row(out, |state| u8::from(self.inner.marks[state]));
+        for (state, byte) in out.iter_mut().enumerate() {
+            *byte = u8::from(self.inner.marks[state]);
+        }
     }
 
     // The directory: the pairs of the kinds, in order, with no gaps between the blocks.

@@ -27,8 +27,8 @@ made_fork : (ks : List ℕ) (at : ℕ) (parts next : List Tree) (b : ℕ) → Ki
 made_fork ks at parts next b k e = go parts (sym (node_is ks at parts b 2 k) ∙ e)
   where
     go : (ps : List Tree) → closed 2 b at ps ≡ Ok next → (t : Tree) × (u : Tree) × (rest : List Tree) × (ps ≡ u ∷ (t ∷ rest)) × (next ≡ fork b t u ∷ rest)
-    go [] f = let z : ◌≡◌ {A = ℕ} 0 1 = cc in absurd (omega arith)
-    go (u ∷ []) f = let z : ◌≡◌ {A = ℕ} 0 1 = cc in absurd (omega arith)
+    go [] f = cc
+    go (u ∷ []) f = cc
     go (u ∷ (t ∷ rest)) f = (t, u, rest, refl, (cc))
 
 -- a push with room does not refuse
@@ -39,7 +39,7 @@ push_ok n s v (Err e) out l h =
     let m = live_length n s in
     let f : full_fault n (length s) ≡ None = cond-true _ _ _ (lt-ltb n (length s) (omega arith)) in
     let g : None ≡ Some e = sym f ∙ h in
-    let z : ◌≡◌ {A = ℕ} 0 1 = cc in absurd (omega arith)
+    cc
 
 module _ {V : Type 0} (at_leaf : ℕ → V) (at_stem : ℕ → V → V) (at_fork : ℕ → V → V → V) where
   abbrev value : Tree → V
@@ -70,19 +70,19 @@ module _ {V : Type 0} (at_leaf : ℕ → V) (at_stem : ℕ → V → V) (at_fork
 -- a node leaves at most one part more
 closed_grows : (at b r : ℕ) (parts next : List Tree) → closed r b at parts ≡ Ok next → length next ≤ length parts + 1
 closed_grows at b zero parts next e = let q : leaf b ∷ parts ≡ next = cc in let l = ap length q in omega arith
-closed_grows at b (suc zero) [] next e = let z : ◌≡◌ {A = ℕ} 0 1 = cc in absurd (omega arith)
+closed_grows at b (suc zero) [] next e = cc
 closed_grows at b (suc zero) (t ∷ parts) next e = let q : stem b t ∷ parts ≡ next = cc in let l = ap length q in omega arith
-closed_grows at b (suc (suc zero)) [] next e = let z : ◌≡◌ {A = ℕ} 0 1 = cc in absurd (omega arith)
-closed_grows at b (suc (suc zero)) (u ∷ []) next e = let z : ◌≡◌ {A = ℕ} 0 1 = cc in absurd (omega arith)
+closed_grows at b (suc (suc zero)) [] next e = cc
+closed_grows at b (suc (suc zero)) (u ∷ []) next e = cc
 closed_grows at b (suc (suc zero)) (u ∷ (t ∷ parts)) next e = let q : fork b t u ∷ parts ≡ next = cc in let l = ap length q in omega arith
-closed_grows at b (suc (suc (suc r))) parts next e = let z : ◌≡◌ {A = ℕ} 0 1 = cc in absurd (omega arith)
+closed_grows at b (suc (suc (suc r))) parts next e = cc
 
 node_grows : (ks : List ℕ) (at : ℕ) (parts next : List Tree) (b : ℕ) → node_read ks at parts b ≡ Ok next → length next ≤ length parts + 1
 node_grows ks at parts next b e = go (ltb b (length ks)) e
   where
     go : (c : Bool) → cond c (closed (get_or ks b 0) b at parts) (Err (NoKind at)) ≡ Ok next → length next ≤ length parts + 1
     go true f = closed_grows at b (get_or ks b 0) parts next f
-    go false f = let z : ◌≡◌ {A = ℕ} 0 1 = cc in absurd (omega arith)
+    go false f = cc
 
 -- after i of the bytes these are the values of the parts that stand, and reading on gives the record
 pub record Worked {V : Type 0} (value : Tree → V) (ks bytes : List ℕ) (i : ℕ) (vals : List V) (t : Tree) : Type 0 where
@@ -103,7 +103,7 @@ module _ {V : Type 0} (value : Tree → V) (ks bytes : List ℕ) (t : Tree) wher
       go : (r : Result (List Tree) Refusal) → node_read ks i parts b ≡ r → after r (λ next. read_from ks (suc i) next bs) ≡ Ok t
           → (next : List Tree) × (node_read ks i parts b ≡ Ok next) × (read_from ks (i + 1) next bs ≡ Ok t)
       go (Ok next) p f = (next, p, ap (λ (n : ℕ). read_from ks n next bs) (add-one i) ∙ f)
-      go (Err x) p f = let z : ◌≡◌ {A = ℕ} 0 1 = cc in absurd (omega arith)
+      go (Err x) p f = cc
 
   pub work_more : (i room : ℕ) (before now : List V) (r : Result (Unit {0}) Refusal) → Steps value ks i (get_or bytes i 0) room before now r
       → i < length bytes → length bytes ≤ room → Worked value ks bytes i before t → (r ≡ Ok tt) × Worked value ks bytes (i + 1) now t
@@ -118,9 +118,9 @@ module _ {V : Type 0} (value : Tree → V) (ks bytes : List ℕ) (t : Tree) wher
   work_end i vals l w = w.values ∙ ap (map value) (go w.parts (ap (read_from ks i w.parts) (sym (drop_all i bytes l)) ∙ w.left))
     where
       go : (ps : List Tree) → ended i ps ≡ Ok t → ps ≡ t ∷ []
-      go [] f = let z : ◌≡◌ {A = ℕ} 0 1 = cc in absurd (omega arith)
+      go [] f = cc
       go (u ∷ []) f = let q : u ≡ t = cc in ap (λ (x : Tree). x ∷ []) q
-      go (u ∷ (v ∷ ps)) f = let z : ◌≡◌ {A = ℕ} 0 1 = cc in absurd (omega arith)
+      go (u ∷ (v ∷ ps)) f = cc
 
   pub work_goes : (i room : ℕ) (before now : List V) (e : Refusal) → Steps value ks i (get_or bytes i 0) room before now (Err e)
       → i < length bytes → length bytes ≤ room → Worked value ks bytes i before t → ⊥
@@ -131,7 +131,7 @@ module _ {V : Type 0} (value : Tree → V) (ks bytes : List ℕ) (t : Tree) wher
 -- what a pop gives where one value stands
 pub popped : {V : Type 0} (x : V) (before rest : List V) (r : Option V) (e : Refusal) → before ≡ x ∷ [] → Popped before rest r → ok_or r e ≡ Ok x
 popped x before rest (Some v) e p q = let f : x ∷ [] ≡ v ∷ rest = sym p ∙ q in let g : v ≡ x = cc in ap (λ y. Ok y) g
-popped x before rest None e p q = let f : x ∷ [] ≡ [] = sym p ∙ q.0 in let z : ◌≡◌ {A = ℕ} 0 1 = cc in absurd (omega arith)
+popped x before rest None e p q = let f : x ∷ [] ≡ [] = sym p ∙ q.0 in cc
 
 -- with room, the answer of a walk is the value
 pub walk_ok : {V : Type 0} (v : V) (need room : ℕ) (r : Result V Refusal) → need ≤ room → r ≡ Ok v → r ≡ walked v need room
@@ -140,12 +140,12 @@ walk_ok v need room r l e = e ∙ sym (cond-false _ _ _ (le-ltb room need l))
 -- an answer that is no refusal leaves the slots free
 pub ok_kept : {V C : Type 0} (v : V) (r : Result V Refusal) (before now : C) → r ≡ Ok v → Kept r before now
 ok_kept v (Ok x) before now e = tt
-ok_kept v (Err x) before now e = let z : ◌≡◌ {A = ℕ} 0 1 = cc in absurd (omega arith)
+ok_kept v (Err x) before now e = cc
 
 -- an answer made from the value of a walk
 pub walked_then : {V W : Type 0} (v x : V) (w y : W) (need room : ℕ) → Ok x ≡ walked v need room → (x ≡ v → y ≡ w) → Ok y ≡ walked w need room
 walked_then v x w y need room e h = go (ltb room need) e
   where
     go : (b : Bool) → Ok x ≡ cond b (Err (BufferTooShort need)) (Ok v) → Ok y ≡ cond b (Err (BufferTooShort need)) (Ok w)
-    go true f = let z : ◌≡◌ {A = ℕ} 0 1 = cc in absurd (omega arith)
+    go true f = cc
     go false f = let q : x ≡ v = cc in ap (λ u. Ok u) (h q)

@@ -15,7 +15,7 @@ module _ (ks : List ℕ) (limit : ℕ) (bytes : List ℕ) where
   pub says_err : (e : Refusal) → read_record ks limit bytes ≡ Err e → Said (Err e)
   says_err e h = record {
     answer = ap fault_in h;
-    exact = λ t w. let f : Ok t ≡ Err e = sym (reads_all ks limit bytes t w) ∙ h in let z : ◌≡◌ {A = ℕ} 0 1 = cc in absurd (omega arith);
+    exact = λ t w. let f : Ok t ≡ Err e = sym (reads_all ks limit bytes t w) ∙ h in cc;
     law = reads_exactly ks limit bytes;
   }
 

@@ -36,18 +36,18 @@ module _ (ks : List ℕ) (limit : ℕ) where
       go t n w.over w.written e l
     where
       go : (t : Tree) (n : ℕ) → Over ks t → postorder t ≡ bytes → Some span ≡ child_span t n → length bytes ≤ limit → Part ks limit bytes (child_tree t n) span
-      go (leaf k) n o q f l = let z : ◌≡◌ {A = ℕ} 0 1 = cc in absurd (omega arith)
+      go (leaf k) n o q f l = cc
       go (stem k t) zero o q f l =
           let s : span ≡ record { start = 0; len = node_count t } = cc in
           part_at [] (k ∷ []) bytes t span o.1 q l (sym (ap (λ (p : Span). p.start) s)) (sym (ap (λ (p : Span). p.len) s))
-      go (stem k t) (suc n) o q f l = let z : ◌≡◌ {A = ℕ} 0 1 = cc in absurd (omega arith)
+      go (stem k t) (suc n) o q f l = cc
       go (fork k t u) zero o q f l =
           let s : span ≡ record { start = 0; len = node_count t } = cc in
           part_at [] (postorder u ++ (k ∷ [])) bytes t span o.1 q l (sym (ap (λ (p : Span). p.start) s)) (sym (ap (λ (p : Span). p.len) s))
       go (fork k t u) (suc zero) o q f l =
           let s : span ≡ record { start = 0 + node_count t; len = node_count u } = cc in
           part_at (postorder t) (k ∷ []) bytes u span o.2 q l (sym (ap (λ (p : Span). p.start) s ∙ (let c = count_length t in omega arith))) (sym (ap (λ (p : Span). p.len) s))
-      go (fork k t u) (suc (suc n)) o q f l = let z : ◌≡◌ {A = ℕ} 0 1 = cc in absurd (omega arith)
+      go (fork k t u) (suc (suc n)) o q f l = cc
 
 -- past the last child there is none
 pub no_child : (from : ℕ) (ts : List Tree) (n : ℕ) → length ts ≤ n → None ≡ span_in from ts n

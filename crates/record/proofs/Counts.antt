@@ -62,8 +62,8 @@ node_next ks small at parts b e = go (ltb b (length ks)) (leb (get_or ks b 0) (l
     go true true p q f =
         closes ks at parts b (get_or ks b 0) (ap (λ c. cond c (closed (get_or ks b 0) b at parts) (Err (NoKind at))) p) refl
         (small b (ltb-true b (length ks) p)) (leb-true (get_or ks b 0) (length parts) q)
-    go true false p q f = let z : ◌≡◌ {A = ℕ} 0 1 = cc in absurd (omega arith)
-    go false y p q f = let z : ◌≡◌ {A = ℕ} 0 1 = cc in absurd (omega arith)
+    go true false p q f = cc
+    go false y p q f = cc
 
 -- a fault by the number of parts is the fault of the node
 pub node_fault_lem : (ks : List ℕ) (at : ℕ) (parts : List Tree) (b : ℕ) (r : Refusal) → node_fault ks at (length parts) b ≡ Some r → node_read ks at parts b ≡ Err r
@@ -71,7 +71,7 @@ node_fault_lem ks at parts b r e = go (ltb b (length ks)) (leb (get_or ks b 0) (
   where
     go : (x y : Bool) → ltb b (length ks) ≡ x → leb (get_or ks b 0) (length parts) ≡ y
         → cond x (cond y None (Some (TooFewParts at))) (Some (NoKind at)) ≡ Some r → node_read ks at parts b ≡ Err r
-    go true true p q f = let z : ◌≡◌ {A = ℕ} 0 1 = cc in absurd (omega arith)
+    go true true p q f = cc
     go true false p q f =
         let w : TooFewParts at ≡ r = cc in
         ap (λ c. cond c (closed (get_or ks b 0) b at parts) (Err (NoKind at))) p
@@ -86,9 +86,6 @@ pub record Standing (ks bytes : List ℕ) (i n : ℕ) : Type 0 where
   pub parts : List Tree
   pub many : length parts ≡ n
   pub left : read_from ks 0 [] bytes ≡ read_from ks i parts (drop i bytes)
-
-pub at_start : (ks bytes : List ℕ) → Standing ks bytes 0 0
-at_start ks bytes = record { parts = []; many = refl; left = refl }
 
 module _ (ks bytes : List ℕ) (i n : ℕ) (s : Standing ks bytes i n) where
   here : i < length bytes → read_from ks 0 [] bytes ≡ read_from ks i s.parts (get_or bytes i 0 ∷ drop (i + 1) bytes)

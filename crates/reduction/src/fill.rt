@@ -64,6 +64,7 @@ impl<'a, R: Ruling> Numbering<'a, R> {
         ensures { MarksFilled (meaning_by self.now) result 32 }
     {
         let mut marks = [false; 32];
+        // By number: over a `zip` with the marks the invariant has no number to speak of.
         for (number, state) in self.rep.as_slice().iter().enumerate() {
             marks[number] = mark_of(self.ruling, *state);
         }

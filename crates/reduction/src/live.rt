@@ -1,4 +1,4 @@
-ghost use Rattle.std.specs.Prelude.{ℕ, ◌<◌, All};
+ghost use Rattle.std.specs.Prelude.{◌<◌, All};
 
 use arrayvec::ArrayVec;
 

@@ -3,6 +3,8 @@ ghost use Rattle.ruling.specs.Meanings.{Fits};
 
 use ruling::Ruling;
 
+// Questions whose answer is known to be there. It is taken apart by let-else, and never unwrapped.
+
 // The target of what is known to be an argument list.
 pub(super) fn target_of<R: Ruling>(ruling: &R, kind: u8, a: u16, b: u16) -> u16
     requires { Fits (R.Ruling.meaning ruling.now).plain.kinds (R.Ruling.meaning ruling.now).plain.states kind a b }

@@ -75,6 +75,7 @@ impl<'a, R: Ruling> Search<'a, R> {
         ensures onto { Onto self.old self.new }
         ensures held { UnlessAll (searched self.old) self.new.order.items ((j : ℕ) → j < i + 1 → BothSeen (searched self.old) self.old.order.items self.new.seen kind i j) }
     {
+        // By place: the list grows while it is walked.
         for j in 0..=i {
             if self.is_full() {
                 return;

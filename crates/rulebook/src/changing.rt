@@ -1,6 +1,6 @@
 ghost use Rattle.std.specs.Prelude.{◌≡◌, Ok};
 ghost use Rattle.ruling.specs.Checks.{Kept};
-ghost use Rattle.rulebook.specs.Calls.{load, change, Made, answered, count};
+ghost use Rattle.rulebook.specs.Calls.{load, change, answered, count};
 ghost use Rattle.rulebook.specs.Histories.{Follows};
 ghost use Rattle.rulebook.specs.Changes.{meaning_of, Gives};
 

@@ -12,19 +12,12 @@ use Rattle.ruling.specs.KindLists.{Ranks, KindList, has_leaf, count_fault, rank_
 use Rattle.std.proofs.lemmas.List.{ext_get_or}
 use Rattle.ruling.proofs.Lowest.{lowest_none, lowest_at, none_lowest}
 
-pub no_rank : (ks : List ℕ) (k : ℕ) → None ≡ rank_in ks k → length ks ≤ k
-no_rank ks k e = go (ltb k (length ks)) refl e
-  where
-    go : (b : Bool) → ltb k (length ks) ≡ b → None ≡ cond b (Some (get_or ks k 0)) None → length ks ≤ k
-    go true p f = let z : ◌≡◌ {A = ℕ} 0 1 = cc in absurd (omega arith)
-    go false p f = ltb-false k (length ks) p
-
 pub a_rank : (ks : List ℕ) (k r : ℕ) → Some r ≡ rank_in ks k → (k < length ks) × (r ≡ get_or ks k 0)
 a_rank ks k r e = go (ltb k (length ks)) refl e
   where
     go : (b : Bool) → ltb k (length ks) ≡ b → Some r ≡ cond b (Some (get_or ks k 0)) None → (k < length ks) × (r ≡ get_or ks k 0)
     go true p f = (ltb-true k (length ks) p, (cc))
-    go false p f = let z : ◌≡◌ {A = ℕ} 0 1 = cc in absurd (omega arith)
+    go false p f = cc
 
 pub none_above : (ks : List ℕ) → Ranks ks → rank_fault ks ≡ None
 none_above ks h = ap (option_map (λ k. RankAbove k)) (lowest_none (λ k. ltb 2 (get_or ks k 0)) 0 (length ks)
@@ -35,7 +28,7 @@ small_ranks ks e = go (lowest (λ k. ltb 2 (get_or ks k 0)) 0 (length ks)) refl 
   where
     go : (o : Option ℕ) → lowest (λ k. ltb 2 (get_or ks k 0)) 0 (length ks) ≡ o → option_map (λ k. RankAbove k) o ≡ None → Ranks ks
     go None p f = λ k l. ltb-false 2 (get_or ks k 0) (none_lowest (λ k. ltb 2 (get_or ks k 0)) 0 (length ks) p k (omega arith) (omega arith))
-    go (Some i) p f = let z : ◌≡◌ {A = ℕ} 0 1 = cc in absurd (omega arith)
+    go (Some i) p f = cc
 
 pub leaf_found : (ks : List ℕ) (b : Bool) → IsAnyAnswer (λ x a. eqb x 0 ≡ a) ks b → has_leaf ks ≡ b
 leaf_found ks true h = go (lowest (λ k. eqb (get_or ks k 0) 0) 0 (length ks)) refl
@@ -54,8 +47,8 @@ front ks xs n e l h =
 -- equal answers about every rank come from equal lists
 pub same_answer : (x y : Option ℕ) → same_rank x y ≡ true → x ≡ y
 same_answer None None e = refl
-same_answer None (Some y) e = let z : ◌≡◌ {A = ℕ} 0 1 = cc in absurd (omega arith)
-same_answer (Some x) None e = let z : ◌≡◌ {A = ℕ} 0 1 = cc in absurd (omega arith)
+same_answer None (Some y) e = cc
+same_answer (Some x) None e = cc
 same_answer (Some x) (Some y) e = ap (λ (n : ℕ). Some n) (eqb-true x y e)
 
 rank_at : (ks : List ℕ) (k : ℕ) → k < length ks → rank_in ks k ≡ Some (get_or ks k 0)
@@ -111,7 +104,7 @@ differ_at ks ls i e h = lowest_at (λ k. not (same_rank (rank_in ks k) (rank_in 
         let p = beyond ks (omega arith) in
         let q = beyond ls (omega arith) in
         let r : same_rank None None ≡ false = ap₂ same_rank (sym p) (sym q) ∙ e in
-        let z : ◌≡◌ {A = ℕ} 0 1 = cc in absurd (omega arith)
+        cc
 
 -- what a search over 16 kinds finds
 pub differ_first : (ks ls : List ℕ) → length ks ≤ 16 → length ls ≤ 16 → (r : Option ℕ)
@@ -121,7 +114,7 @@ pub differ_first : (ks ls : List ℕ) → length ks ≤ 16 → length ls ≤ 16 
     → (differing ks ls ≡ r) × (r ≡ None → ks ≡ ls)
 differ_first ks ls a b None h =
     let e = lists_same ks ls a b (λ k l. h k (omega arith) l) in (subst (λ zs. differing ks zs ≡ None) e (same_kinds ks), λ _. e)
-differ_first ks ls a b (Some i) h = (differ_at ks ls i h.2 (λ k l. h.3 k (omega arith) l), λ e. let z : ◌≡◌ {A = ℕ} 0 1 = cc in absurd (omega arith))
+differ_first ks ls a b (Some i) h = (differ_at ks ls i h.2 (λ k l. h.3 k (omega arith) l), λ e. cc)
 
 -- with 1 to 16 kinds, only the ranks can be at fault
 pub few_kinds : (ks : List ℕ) → 0 < length ks → length ks ≤ 16 → count_fault ks ≡ None

@@ -36,7 +36,7 @@ none_lowest P from (suc c) e i l u = go (P from) refl e (ℕ_discrete from i) (�
   where
     go : (b : Bool) → P from ≡ b → cond b (Some from) (lowest P (suc from) c) ≡ None → Dec (from ≡ i)
         → (lowest P (suc from) c ≡ None → ¬ (from ≡ i) → P i ≡ false) → P i ≡ false
-    go true p f d rest = let z : ◌≡◌ {A = ℕ} 0 1 = cc in absurd (omega arith)
+    go true p f d rest = cc
     go false p f (yes q) rest = ap P (sym q) ∙ p
     go false p f (no q) rest = rest f q
 
@@ -58,7 +58,7 @@ found_later P from c i p w = record { low = omega (arith, w.low); high = omega (
     pick j u (no q) l = w.before j (omega arith) u
 
 pub some_lowest : (P : ℕ → Bool) (from c i : ℕ) → lowest P from c ≡ Some i → Found P from c i
-some_lowest P from zero i e = let z : ◌≡◌ {A = ℕ} 0 1 = cc in absurd (omega arith)
+some_lowest P from zero i e = cc
 some_lowest P from (suc c) i e = go (P from) refl e (some_lowest P (suc from) c i)
   where
     go : (b : Bool) → P from ≡ b → cond b (Some from) (lowest P (suc from) c) ≡ Some i

@@ -21,10 +21,7 @@ fn first_difference<R: Ruling>(ruling: &R, kinds: &Kinds) -> Option<u8>
 pub fn check_same_kinds<R: Ruling>(ruling: &R, kinds: &Kinds) -> Result<(), Refusal>
     ensures { Answers (kinds_fault (R.Ruling.meaning ruling.now).plain.kinds (list_of kinds.now)) (λ _. (R.Ruling.meaning ruling.now).plain.kinds ≡ list_of kinds.now) result }
 {
-    match first_difference(ruling, kinds) {
-        Some(kind) => Err(Refusal::KindsDiffer(kind as usize)),
-        None => Ok(()),
-    }
+    first_difference(ruling, kinds).map_or(Ok(()), |kind| Err(Refusal::KindsDiffer(kind as usize)))
 }
 
 fn kind_count<R: Ruling>(ruling: &R) -> u8

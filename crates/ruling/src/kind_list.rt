@@ -19,10 +19,7 @@ fn first_above(ranks: &[u8]) -> Option<usize>
 fn check_small(ranks: &[u8]) -> Result<(), Refusal>
     ensures { Answers (rank_fault ranks.now) (λ _. Unit {0}) result }
 {
-    match first_above(ranks) {
-        Some(kind) => Err(Refusal::RankAbove(kind)),
-        None => Ok(()),
-    }
+    first_above(ranks).map_or(Ok(()), |kind| Err(Refusal::RankAbove(kind)))
 }
 
 fn has_leaf(ranks: &[u8]) -> bool

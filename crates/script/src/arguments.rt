@@ -70,7 +70,7 @@ impl Words<'_> {
         }
     }
 
-    // The three numbers that are left. No struct: the one caller takes them apart at once.
+    // The three numbers that are left.
     pub(super) fn three_numbers(mut self) -> Option<(u32, u32, u32)>
         ensures { result ≡ three_numbers (words_left self.entry) }
     {
@@ -101,7 +101,7 @@ impl Words<'_> {
         }
     }
 
-    // The bytes that are left, and the length of a lent stack. No struct: each caller takes them apart at once.
+    // The bytes that are left, and the length of a lent stack.
     pub(super) fn bytes_and_room(
         mut self,
         heap: Global,

@@ -1,4 +1,4 @@
-ghost use Rattle.std.specs.Prelude.{◌≡◌, ℕ, ◌<◌, length, IfOk};
+ghost use Rattle.std.specs.Prelude.{◌≡◌, ◌<◌, length, IfOk};
 ghost use Rattle.judging.specs.Judging.{judged_bytes};
 ghost use Rattle.ruling.specs.Questions.{rank_in, targeted, marked};
 ghost use Rattle.session.specs.Sessions.{number_or, mark_or, verdict_or, size_or, measured_bytes};

@@ -15,7 +15,7 @@ use Rattle.table.specs.FileParts.{BlocksInside, FaultsTold}
 
 pub first_none : {A : Type 0} (o p : Option A) → first o p ≡ None → (o ≡ None) × (p ≡ None)
 first_none None p e = (refl, e)
-first_none (Some x) p e = let z : ◌≡◌ {A = ℕ} 0 1 = cc in absurd (omega arith)
+first_none (Some x) p e = cc
 
 -- a check that finds nothing leaves the answer to those that follow; one that finds a fault decides
 pub leaves : {A : Type 0} (o p q : Option A) → o ≡ None → p ≡ q → first o p ≡ q
@@ -38,7 +38,7 @@ staged f = ap (first (head_fault f)) (first_assoc (rank_fault (ranks_in f)) (lea
 
 -- a test that finds no fault, and one that passes on
 passed : {A : Type 0} (b : Bool) (x : A) (o : Option A) → cond b (Some x) o ≡ None → (b ≡ false) × (o ≡ None)
-passed true x o e = let z : ◌≡◌ {A = ℕ} 0 1 = cc in absurd (omega arith)
+passed true x o e = cc
 passed false x o e = (refl, e)
 
 passing : {A : Type 0} (b : Bool) (x : A) (o : Option A) → b ≡ false → o ≡ None → cond b (Some x) o ≡ None
@@ -46,7 +46,7 @@ passing b x o e f = ap (λ (t : Bool). cond t (Some x) o) e ∙ f
 
 mapped_none : {A B : Type 0} (f : A → B) (o : Option A) → option_map f o ≡ None → o ≡ None
 mapped_none f None e = refl
-mapped_none f (Some x) e = let z : ◌≡◌ {A = ℕ} 0 1 = cc in absurd (omega arith)
+mapped_none f (Some x) e = cc
 
 within : (x m : ℕ) → not (nat_le 1 x && nat_le x m) ≡ false → (1 ≤ x) × (x ≤ m)
 within x m e = let w = and_parts (nat_le 1 x) (nat_le x m) (not-false (nat_le 1 x && nat_le x m) e) in (leb-true 1 x w.0, leb-true x m w.1)
@@ -100,7 +100,7 @@ leaf_right ks e = go (has_leaf ks) e
   where
     go : (b : Bool) → cond b None (Some NoLeafKind) ≡ None → b ≡ true
     go true f = refl
-    go false f = let z : ◌≡◌ {A = ℕ} 0 1 = cc in absurd (omega arith)
+    go false f = cc
 
 leaf_faultless : (ks : List ℕ) → has_leaf ks ≡ true → leaf_fault ks ≡ None
 leaf_faultless ks e = ap (λ b. cond b None (Some NoLeafKind)) e
@@ -219,7 +219,7 @@ right_cell n x e = go (nat_le n x) refl (x == 255) refl e
     go : (a : Bool) → nat_le n x ≡ a → (b : Bool) → (x == 255) ≡ b → (a && not b) ≡ false → (x < n) ⊎ (x ≡ 255)
     go false p b q g = inl (leb-false n x p)
     go true p true q g = inr (eqb-true x 255 q)
-    go true p false q g = let z : ◌≡◌ {A = ℕ} 0 1 = cc in absurd (omega arith)
+    go true p false q g = cc
 
 cell_right : (n x : ℕ) → (x < n) ⊎ (x ≡ 255) → wrong_cell n x ≡ false
 cell_right n x (inl l) = ap (λ a. a && not (x == 255)) (lt-leb n x l)

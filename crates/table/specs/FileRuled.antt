@@ -35,7 +35,7 @@ power_few n (suc (suc (suc r))) a b = absurd (omega arith)
 
 none_of : {A : Type 0} (o : Option A) → is_some o ≡ false → o ≡ None
 none_of None e = refl
-none_of (Some x) e = let z : ◌≡◌ {A = ℕ} 0 1 = cc in absurd (omega arith)
+none_of (Some x) e = cc
 
 pub faultless : (f : List ℕ) → is_some (table_fault f) ≡ false → TableFile f
 faultless f e = faultless_file f (none_of (table_fault f) e)

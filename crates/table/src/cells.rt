@@ -15,10 +15,8 @@ impl<'a> Blocks<'a> {
     {
         let states = self.head.bytes[1];
         let block = self.head.block(kind);
-        match block.first_found(self.head.bytes, |cell| cell >= states && cell != 255) {
-            Some(at) => Err(Refusal::TableByte(at)),
-            None => Ok(()),
-        }
+        let wrong = block.first_found(self.head.bytes, |cell| cell >= states && cell != 255);
+        wrong.map_or(Ok(()), |at| Err(Refusal::TableByte(at)))
     }
 
     // The cells, kind by kind: 6.

@@ -5,7 +5,7 @@ ghost use Rattle.table.specs.TableFiles.{head_fault, states_in, kind_count_in, r
 ghost use Rattle.table.specs.FileParts.{Headed};
 
 use super::part::Part;
-use ruling::{Refusal, check_leaf_kind, check_ranks};
+use ruling::{Refusal, check_opening};
 
 const EDITION: u8 = 1;
 
@@ -92,9 +92,7 @@ impl<'a> Head<'a> {
     pub(super) fn check_kinds(&self) -> Result<(), Refusal>
         ensures { Answers (first (rank_fault (ranks_in self.now.bytes.now)) (leaf_fault (ranks_in self.now.bytes.now))) (λ _. KindList (ranks_in self.now.bytes.now)) result }
     {
-        let ranks = self.ranks();
-        check_ranks(ranks)?;
-        check_leaf_kind(ranks)
+        check_opening(self.ranks())
     }
 
     // The marks, one byte a state: 6.
@@ -105,9 +103,7 @@ impl<'a> Head<'a> {
             offset: 4 + self.kind_count(),
             length: self.states(),
         };
-        match marks.first_found(self.bytes, |mark| mark > 1) {
-            Some(at) => Err(Refusal::TableByte(at)),
-            None => Ok(()),
-        }
+        let wrong = marks.first_found(self.bytes, |mark| mark > 1);
+        wrong.map_or(Ok(()), |at| Err(Refusal::TableByte(at)))
     }
 }
