@@ -2,7 +2,7 @@ use std::fmt;
 use std::ops::AddAssign;
 
 // The number of argument lists of a ruling, and the target questions of each part of its reduction.
-#[derive(Clone, Copy, Default)]
+#[derive(Clone, Copy, Debug, Default, PartialEq, Eq)]
 pub struct Questions {
     pub lists: u64,
     pub reached: u64,

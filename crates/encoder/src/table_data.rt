@@ -1,5 +1,5 @@
 // The fields of a table, with room for 16 kinds and 32 states. What is unused is 0.
-// Arrays of fixed length: a table needs no heap, and is written whole.
+// Arrays in a plain struct, which is written whole: so the count stands beside the ranks, and they are no `Kinds`.
 #[derive(Drop)]
 pub struct TableData {
     pub count: u8,
