@@ -22,6 +22,7 @@ impl Table {
         requires { length out.old ≡ self.now.inner.states }
         ensures { out.new ≡ row self.now.inner.states (λ s. mark_byte ((table_meaning self.now.inner).mark s)) }
     {
+        // By number: over a `zip` with the marks the invariant has no number to speak of.
         for (state, byte) in out.iter_mut().enumerate() {
             *byte = u8::from(self.inner.marks[state]);
         }

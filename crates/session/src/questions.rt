@@ -4,7 +4,7 @@ ghost use Rattle.ruling.specs.Questions.{rank_in, targeted, marked};
 ghost use Rattle.session.specs.Sessions.{number_or, mark_or, verdict_or, size_or, measured_bytes};
 
 use judging::{Size, judge_bytes, measure};
-use record::{MAX_NODES, Record, check_record};
+use record::Record;
 use ruling::{Refusal, Ruling, kinds_of};
 use script::Answer;
 use std::alloc::{AllocError, Global};
@@ -26,9 +26,7 @@ pub(super) fn ask_judge<R: Ruling>(
 fn measure_bytes<R: Ruling>(ruling: &R, bytes: &[u8], slots: &mut [Size]) -> Result<Size, Refusal>
     ensures { result ≡ measured_bytes (R.Ruling.meaning ruling.now).plain.kinds bytes.now (length slots.old) }
 {
-    let kinds = kinds_of(ruling);
-    check_record(&kinds, bytes, MAX_NODES)?;
-    measure(&Record::make(bytes, kinds), slots)
+    measure(&Record::read(bytes, kinds_of(ruling))?, slots)
 }
 
 // Measures a record, read under the ruling's kinds, with a lent stack of this length.
