@@ -53,7 +53,12 @@ impl<'a> Iterator for Words<'a> {
     ghost remaining = { item_count words_left };
 
     fn next(&mut self) -> Option<&'a [u8]> {
-        let text = &self.rest[word_start(self.rest)?..];
+        let Some(start) = word_start(self.rest) else {
+            // The blanks are passed once: asked again, there is nothing to go over.
+            self.rest = &[];
+            return None;
+        };
+        let text = &self.rest[start..];
         let (word, rest) = text.split_at(word_end(text).unwrap_or(text.len()));
         self.rest = rest;
         if word.is_empty() { None } else { Some(word) }
