@@ -17,7 +17,7 @@ filter_holds test (x ∷ xs) = All-cons (λ z. (test z ≡ true → Contains (fi
     more : (y : ℕ) → Contains (filter test xs) y → Contains (cond (test x) (x ∷ filter test xs) (filter test xs)) y
     more y h = elim (test x) as (λ b. Contains (cond b (x ∷ filter test xs) (filter test xs)) y) [ true ↦ Contains-append_right (x ∷ []) (filter test xs) y h | false ↦ h ]
 
-abbrev In : List ℕ → List Bool → ℕ → Bool
+abbrev pub In : List ℕ → List Bool → ℕ → Bool
 In class shared s = get_or shared (get_or class s 0) false
 
 -- Those that are gone led their classes, so two of one class are one.

@@ -31,7 +31,7 @@ impl<'a, R: Ruling> Division<'a, R> {
         requires { Listing (R.Ruling.meaning ruling.now).plain list.now }
         ensures { result.ruling ≡ ruling.entry }
     {
-        let live = Live::all(list);
+        let mut live = Live::all(list);
         let mut keys = [0; 1089];
         read_keys(
             &live,
@@ -43,7 +43,7 @@ impl<'a, R: Ruling> Division<'a, R> {
         );
         let mut partition = Partition::whole(list[0]);
         partition.split(&live, &keys);
-        let live = live.still_live(&partition);
+        live.refresh(&partition);
         Division {
             ruling,
             partition,

@@ -27,30 +27,31 @@ impl Live {
         requires small { All (λ s. s < 1089) list.now }
         ensures { result.states.items ≡ list.now }
     {
-        Live {
-            states: ArrayVec::try_from(list).unwrap(),
-        }
-    }
-
-    // Those whose class is shared. Pushed one by one: the test of `retain` would have to answer for every number.
-    fn in_shared(&self, class: &[u16; 1089], shared: &[bool; 1089]) -> Live
-        requires { (p : ℕ) → slice_index class.now p < 1089 }
-        ensures { result.states.items ≡ filter (λ s. slice_index_or shared.now (slice_index class.now s) false) self.now.states.items }
-    {
         let mut states = ArrayVec::new();
-        for state in self.states.as_slice() {
-            if shared[class[*state as usize] as usize] {
-                states.push(*state);
-            }
-        }
+        states.try_extend_from_slice(list).unwrap();
         Live { states }
     }
 
-    // Those that are not alone in their class.
-    pub(super) fn still_live(&self, partition: &Partition) -> Live
-        ensures { FewerOf self.now.states.items partition.now result.states.items }
+    // Keeps those whose class is shared. In their own room: a list made anew would be cleared and moved at each division.
+    fn keep_shared(&mut self, class: &[u16; 1089], shared: &[bool; 1089])
+        ensures { self.new.states.items ≡ filter (λ s. slice_index_or shared.now (slice_index class.now s) false) self.old.states.items }
+    {
+        self.states.retain(
+            |state| -> bool
+                ensures kept { state.new ≡ state.old }
+                ensures shared { result ≡ slice_index_or shared.entry.now (slice_index class.entry.now state.old) false }
+            {
+                let class = class.get(*state as usize).copied().unwrap_or(0);
+                shared.get(class as usize).copied().unwrap_or(false)
+            },
+        );
+    }
+
+    // Drops those that are alone in their class.
+    pub(super) fn refresh(&mut self, partition: &Partition)
+        ensures { FewerOf self.old.states.items partition.now self.new.states.items }
     {
         let shared = shared_classes(self, partition);
-        self.in_shared(&partition.class, &shared)
+        self.keep_shared(&partition.class, &shared);
     }
 }

@@ -24,6 +24,6 @@ invariant_of-result g c =
     record {
       sorted = ∣ record {
         classed = marks_classed m _ _ _ _ all hit c.whole-partition.ensures _ _ _ c.read_keys.ensures c.split.ensures.split c.split.new.self.parts c.split.ensures.level;
-        lives = fewer_lives m _ _ _ (marks_lives m _ _ _ _ all hit c.whole-partition.ensures _ _ _ c.read_keys.ensures c.split.ensures.split) c.still_live-live.ensures;
+        lives = fewer_lives m _ _ _ (marks_lives m _ _ _ _ all hit c.whole-partition.ensures _ _ _ c.read_keys.ensures c.split.ensures.split) c.refresh.ensures;
       } ∣₁;
     }

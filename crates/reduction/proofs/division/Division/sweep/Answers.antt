@@ -9,7 +9,7 @@ read_keys-requires g c k d h = (c.requires, live_below (g.R.Ruling.meaning c.arg
 pub invariant_of-self-then-count-before : goal.invariant_of-self-then-count-before
 invariant_of-self-then-count-before g c = record {
   sorted = ∥∥₁_map c.args.self.now.sorted (swept (g.R.Ruling.meaning c.args.self.now.ruling.now).plain c.args.context _ _ _ _ _ _ c.requires
-      c.read_keys.ensures c.split.ensures.split c.split.new.self.parts _ c.still_live-self.ensures);
+      c.read_keys.ensures c.split.ensures.split c.split.new.self.parts _ c.refresh.ensures);
 }
 
 pub returns-else-count-before : goal.returns-else-count-before
