@@ -22,9 +22,8 @@ pub fn open(ranks: &[u8]) -> Result<Opening, Refusal>
 fn state_within(states: u16, target: u32) -> u16
     ensures { result ≡ within states target }
 {
-    u16::try_from(target)
-        .ok()
-        .filter(|state| *state < states)
+    (target < u32::from(states))
+        .then(|| target as u16)
         .unwrap_or(0)
 }
 
