@@ -26,7 +26,7 @@ joined_within (b ∷ bs) (suc j) l =
     let g = length-append b (joined (take j bs)) in omega arith
 
 -- a block as rows: of so many first children, each with so many second ones
-singles : (n : ℕ) (f : ℕ → ℕ) → joined (row n (λ a. f a ∷ [])) ≡ row n f
+pub singles : (n : ℕ) (f : ℕ → ℕ) → joined (row n (λ a. f a ∷ [])) ≡ row n f
 singles zero f = refl
 singles (suc n) f = ap (λ xs. f 0 ∷ xs) (singles n (λ i. f (suc i)))
 

@@ -4,7 +4,6 @@ ghost use Rattle.encoder.specs.Tables.{kinds_held};
 ghost use Rattle.encoder.specs.Encodings.{table_blocks};
 
 use super::table_in_memory::Table;
-use table::cell_count;
 
 impl Table {
     // Where the first block of its file begins.
@@ -15,13 +14,13 @@ impl Table {
         4 + 5 * self.inner.count as usize + self.inner.states as usize
     }
 
-    // The number of cells of a kind.
+    // The number of cells of a kind, a factor for each child: a power is a loop, and the encoder asks often.
     pub(super) fn block_len(&self, kind: usize) -> usize
         requires { kind < length (kinds_held self.now.inner) }
         ensures value { result ≡ length (slice_index_or (table_blocks self.now.inner) kind []) }
         ensures few { result ≤ 1024 }
     {
-        cell_count(self.inner.states as usize, self.inner.ranks[kind])
+        self.choices(kind, 1) * self.choices(kind, 2)
     }
 
     // The number of cells of all kinds.

@@ -36,7 +36,7 @@ impl Table {
         &self.inner.marks[..self.inner.states as usize]
     }
 
-    fn cell(&self, kind: u8, a: u8, b: u8) -> u8
+    pub(super) fn cell(&self, kind: u8, a: u8, b: u8) -> u8
         requires { (kind < 16) × ((a < 32) × (b < 32)) }
         ensures { result ≡ (table_meaning self.now.inner).target kind a b }
     {

@@ -1,10 +1,13 @@
-ghost use Rattle.std.specs.Prelude.{◌≡◌, ◌*◌, ◌<◌, [], ◌++◌, length, slice_index_or};
+ghost use Rattle.std.specs.Prelude.{◌≡◌, ◌*◌, ◌<◌, ◌≤◌, [], ◌++◌, length, slice_index_or};
 ghost use Rattle.ruling.specs.Written.{row, joined, mark_byte, low_high, body_at, directory};
 ghost use Rattle.encoder.specs.Tables.{kinds_held, table_meaning};
 ghost use Rattle.encoder.specs.Encodings.{table_blocks};
 
 use super::places::place_of_cell;
 use super::table_in_memory::Table;
+
+// The length from which on a row is copied by one call.
+const LONG_ROW: usize = 8;
 
 // A pair of the directory.
 fn pair(offset: usize, cells: usize) -> [u8; 4]
@@ -41,16 +44,46 @@ impl Table {
         }
     }
 
+    // The cells of a kind and a first child. Few cells are written by number: that costs less than a call that copies memory.
+    fn write_row(&self, kind: u8, first: u8, out: &mut [u8])
+        requires { (kind < 16) × ((first < 32) × (length out.old ≤ 32)) }
+        ensures { out.new ≡ row (length out.old) (λ b. (table_meaning self.now.inner).target kind first b) }
+    {
+        let at = place_of_cell(kind, first, 0);
+        let cells = out.len();
+        if cells >= LONG_ROW {
+            out.copy_from_slice(&self.inner.cells[at..at + cells]);
+            return;
+        }
+        for (second, byte) in out.iter_mut().enumerate() {
+            *byte = self.inner.cells[at + second];
+        }
+    }
+
+    // The cells of a kind whose rows have one cell each: a slice for each would cost more than the cell.
+    fn write_column(&self, kind: u8, out: &mut [u8])
+        requires { (kind < 16) × (length out.old ≤ 32) }
+        ensures { out.new ≡ row (length out.old) (λ a. (table_meaning self.now.inner).target kind a 0) }
+    {
+        for (first, byte) in out.iter_mut().enumerate() {
+            *byte = self.cell(kind, first as u8, 0);
+        }
+    }
+
     // The cells of a kind, a row for each first child.
     fn write_block(&self, kind: usize, out: &mut [u8])
         requires { (kind < length (kinds_held self.now.inner)) × (length out.old ≡ length (slice_index_or (table_blocks self.now.inner) kind [])) }
         ensures { out.new ≡ slice_index_or (table_blocks self.now.inner) kind [] }
     {
+        let firsts = self.choices(kind, 1);
         let seconds = self.choices(kind, 2);
-        for first in 0..self.choices(kind, 1) {
+        if seconds == 1 {
+            self.write_column(kind as u8, out);
+            return;
+        }
+        for first in 0..firsts {
             let from = first * seconds;
-            let at = place_of_cell(kind as u8, first as u8, 0);
-            out[from..from + seconds].copy_from_slice(&self.inner.cells[at..at + seconds]);
+            self.write_row(kind as u8, first as u8, &mut out[from..from + seconds]);
         }
     }
 
