@@ -112,7 +112,7 @@ impl<'a, R: Ruling> Division<'a, R> {
 
     // Meets the brothers one after the other, in a circle, until a whole round of them has divided nothing, or no state is live.
     // Where all marks are equal there is one class at once.
-    fn settle(&mut self, list: &[u16])
+    pub(super) fn settle(&mut self, list: &[u16])
         requires { Listing (meant_by self.old) list.now }
         ensures same { self.new.ruling ≡ self.old.ruling }
         ensures even { AllEven (meant_by self.old) self.new.partition.class }
@@ -138,14 +138,4 @@ fn quiet_after(divided: bool, quiet: usize) -> usize
     ensures { result ≡ (if divided then 0 else quiet + 1) }
 {
     if divided { 0 } else { quiet + 1 }
-}
-
-// Divides the listed states into classes: two have one class exactly if no surrounding tells them apart.
-pub(super) fn classes<R: Ruling>(ruling: &R, list: &[u16]) -> Partition
-    requires { Listing (R.Ruling.meaning ruling.now).plain list.now }
-    ensures { Classes (R.Ruling.meaning ruling.now).plain.kinds (R.Ruling.meaning ruling.now).plain (length result.leader.items) (λ s. slice_index result.class s) }
-{
-    let mut division = Division::by_marks(ruling, list);
-    division.settle(list);
-    division.partition
 }

@@ -6,18 +6,17 @@ use super::live::Live;
 use super::partition::Partition;
 use arrayvec::ArrayVec;
 
-// The classes that have a live state beside their leader.
-fn shared_classes(live: &Live, partition: &Partition) -> [bool; 1089]
-    ensures { Shared live.now.states.items partition.now.class partition.now.leader.items result }
+// Notes the classes that have a live state beside their leader. The room is lent, and cleared only as far as there are classes.
+fn note_shared(live: &Live, partition: &Partition, shared: &mut [bool; 1089])
+    ensures { Shared live.now.states.items partition.now.class partition.now.leader.items shared.new }
 {
-    let mut shared = [false; 1089];
+    shared[..partition.count()].fill(false);
     for state in live.states.as_slice() {
         let class = partition.class[*state as usize] as usize;
         if partition.leader[class] != *state {
             shared[class] = true;
         }
     }
-    shared
 }
 
 impl Live {
@@ -48,10 +47,10 @@ impl Live {
     }
 
     // Drops those that are alone in their class.
-    pub(super) fn refresh(&mut self, partition: &Partition)
+    pub(super) fn refresh(&mut self, partition: &Partition, shared: &mut [bool; 1089])
         ensures { FewerOf self.old.states.items partition.now self.new.states.items }
     {
-        let shared = shared_classes(self, partition);
-        self.keep_shared(&partition.class, &shared);
+        note_shared(self, partition, shared);
+        self.keep_shared(&partition.class, shared);
     }
 }

@@ -43,7 +43,7 @@ impl<'a, R: Ruling> Division<'a, R> {
         );
         self.partition.split(&self.live, &self.keys);
         if self.partition.count() != before {
-            self.live.refresh(&self.partition);
+            self.live.refresh(&self.partition, &mut self.shared);
         }
     }
 }

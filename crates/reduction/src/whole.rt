@@ -3,8 +3,8 @@ ghost use Rattle.ruling.specs.KindLists.{has_leaf};
 ghost use Rattle.ruling.specs.Theorems.{Plugging, AllReached, Smallest, OneTable, SameBytes, TableOfEach, OneWritten, SettledSame, ApproximationsEnd, NeedOfClasses, OneNeed};
 ghost use Rattle.reduction.specs.Reductions.{Reduces, OneReduction};
 
+use super::begin::classes;
 use super::numbering::Numbering;
-use super::refine::classes;
 use super::visit::reached;
 use super::watch::{Phase, Unwatched, Watch};
 use encoder::Table;
